@@ -1,0 +1,12 @@
+pub mod Tree
+pub mod Measure
+pub mod Opening
+pub mod Parameter
+pub mod Index
+pub mod Typing
+pub mod Problem
+pub mod Rewriting
+pub mod Calculus
+pub mod Same
+pub mod Truth
+pub mod View
