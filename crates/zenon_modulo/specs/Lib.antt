@@ -1,0 +1,6 @@
+pub mod Words
+pub mod Stop
+pub mod Reading
+pub mod Text
+pub mod Outcome
+pub mod Answer

@@ -1,0 +1,88 @@
+-- What is written for an answer, as a list of bytes.
+use Rattle.std.specs.Prelude.{ℕ, zero, suc, Bool, codes, decimal, cond, List, [], ◌∷◌, ◌++◌, map}
+use Rattle.zm_logic.specs.Tree.{Form, Problem}
+use Rattle.zm_logic.specs.Truth.{Valued}
+use Rattle.search.specs.Tableau.{Node, picks}
+use Rattle.search.specs.Stopping.{Cause}
+use Rattle.search.specs.View.{tree_of, cause_of, valued_tree}
+use Rattle.zenon_modulo.specs.declared.outcome.Outcome.{Outcome}
+use Rattle.zenon_modulo.specs.declared.outcome.Outcome.TheVariants as outcomes
+use Rattle.zenon_modulo.specs.declared.outcome.InputRefusal.{InputRefusal}
+use Rattle.zenon_modulo.specs.declared.outcome.InputRefusal.TheVariants as refusals
+
+-- a comma before each further number
+abbrev pub further_picks : List ℕ → List ℕ
+further_picks [] = []
+further_picks (k ∷ ks) = codes "," ++ decimal k ++ further_picks ks
+
+-- a space, and then the numbers with commas between them; nothing where there is none
+abbrev pub picks_text : List ℕ → List ℕ
+picks_text [] = []
+picks_text (k ∷ ks) = codes " " ++ decimal k ++ further_picks ks
+
+-- the names of the symbols of a problem, of which the first is that of symbol 1
+abbrev pub names_of : Problem → List (List ℕ)
+names_of p = map (λ s. s.name) p.symbols
+
+abbrev pub name_at : List (List ℕ) → ℕ → List ℕ
+name_at [] n = []
+name_at (name ∷ names) zero = name
+name_at (name ∷ names) (suc n) = name_at names n
+
+-- an atom without arguments prints as its name
+abbrev pub atom_text : List (List ℕ) → Form → List ℕ
+atom_text names (Form.atom (suc n) types terms) = name_at names n
+atom_text names f = []
+
+abbrev pub truth_text : Bool → List ℕ
+truth_text b = cond b (codes " = true\n") (codes " = false\n")
+
+-- a line for each atom
+abbrev pub valuation_text : List (List ℕ) → List Valued → List ℕ
+valuation_text names [] = []
+valuation_text names (v ∷ vs) = atom_text names v.atom ++ truth_text v.truth ++ valuation_text names vs
+
+-- the name of a cause
+abbrev pub cause_text : Cause → List ℕ
+cause_text Cause.saturated = codes "saturated"
+cause_text Cause.steps = codes "steps"
+cause_text Cause.branch_length = codes "branch length"
+
+abbrev pub proved_text : Node → List ℕ
+proved_text tree = codes "(; proved ;)\n(; picks:" ++ picks_text (picks tree) ++ codes " ;)\n"
+
+abbrev pub falsified_text : Problem → List Valued → List ℕ
+falsified_text p v = codes "falsified\n" ++ valuation_text (names_of p) v
+
+abbrev pub unknown_text : Cause → Node → List ℕ
+unknown_text why tree = codes "unknown: " ++ cause_text why ++ codes "\npicks:" ++ picks_text (picks tree) ++ codes "\n"
+
+-- what is written to the sink for results
+abbrev pub out_text : Problem → Outcome → List ℕ
+out_text p (outcomes.Proved tableau) = proved_text (tree_of tableau)
+out_text p (outcomes.Falsified valuation tableau) = falsified_text p (map valued_tree valuation)
+out_text p (outcomes.Unknown why tableau) = unknown_text (cause_of why) (tree_of tableau)
+out_text p (outcomes.Refused refusal) = []
+out_text p (outcomes.Usage refusal) = []
+out_text p outcomes.ReadFault = []
+out_text p outcomes.WriteFault = []
+out_text p outcomes.Memory = []
+
+abbrev pub refusal_text : InputRefusal → List ℕ
+refusal_text refusals.NotBuilt = codes "refused: not built\n"
+refusal_text refusals.TooLarge = codes "refused: too large\n"
+
+-- how the program is called
+abbrev pub usage_text : List ℕ
+usage_text = codes "usage: zenon_modulo prove FILE [options] | check FILE [options] | gen K [options]\n"
+
+-- what is written to the sink for messages
+abbrev pub diag_text : Outcome → List ℕ
+diag_text (outcomes.Proved tableau) = []
+diag_text (outcomes.Falsified valuation tableau) = []
+diag_text (outcomes.Unknown why tableau) = []
+diag_text (outcomes.Refused refusal) = refusal_text refusal
+diag_text (outcomes.Usage refusal) = usage_text
+diag_text outcomes.ReadFault = codes "fault: read\n"
+diag_text outcomes.WriteFault = []
+diag_text outcomes.Memory = codes "out of memory\n"

@@ -1,0 +1,2 @@
+fof(equivalence_is_not_built_yet,conjecture,
+    p <=> p).

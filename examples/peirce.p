@@ -1,0 +1,2 @@
+fof(peirce_law_holds_classically,conjecture,
+    ((p => q) => p) => p).
