@@ -1,0 +1,39 @@
+-- Two calls in a row are as one.
+use Rattle.std.proofs.Common.{◌≡◌, ℕ, ◌+◌, ◌-◌, ◌≤◌, min, sym, ◌∙◌, ap, subst, List, ◌++◌, length, take, drop, append_assoc, arith, Option, Some, None, inl, inr}
+use Rattle.std.specs.Option.{option_map}
+use Rattle.std.proofs.Math.Seq.{take-add}
+use Rattle.std.proofs.lemmas.List.{take-append-drop, drop-drop, take_rest}
+use Rattle.zm_base.specs.Outside.{IsFront, Takes, Counts, Rose, last_count}
+
+pub left_splits : (bytes : List ℕ) (at n : ℕ) → drop at bytes ≡ take n (drop at bytes) ++ drop (at + n) bytes
+left_splits bytes at n = sym (take-append-drop n (drop at bytes)) ∙ ap (λ r. take n (drop at bytes) ++ r) (drop-drop n at bytes)
+
+pub fronts_join : (a b : List ℕ) (x y z : Option (List ℕ)) → IsFront a x y → IsFront b y z → IsFront (a ++ b) x z
+fronts_join a b x y None p q = p ∙ ap (option_map (λ rest. a ++ rest)) q
+fronts_join a b x y (Some r) p q = p ∙ ap (option_map (λ rest. a ++ rest)) q ∙ ap Some (sym (append_assoc a b r))
+
+pub takes_join : (a b : List ℕ) (x y z : Option (List ℕ)) → Takes a x y → Takes b y z → Takes (a ++ b) x z
+takes_join a b None y z p q = q ∙ ap (option_map (λ held. held ++ b)) p
+takes_join a b (Some h) y z p q = q ∙ ap (option_map (λ held. held ++ b)) p ∙ ap Some (append_assoc h a b)
+
+min_twice : (t m n : ℕ) → min (min (t + m) last_count + n) last_count ≡ min (t + (m + n)) last_count
+min_twice t m n = omega arith
+
+pub counts_join : (m n : ℕ) (x y z : Option ℕ) → Counts m x y → Counts n y z → Counts (m + n) x z
+counts_join m n None y z p q = q ∙ ap (option_map (λ t. min (t + n) last_count)) p
+counts_join m n (Some t) y z p q = q ∙ ap (option_map (λ t. min (t + n) last_count)) p ∙ ap Some (min_twice t m n)
+
+pub rose_before : (a b c : ℕ) → a ≤ b → Rose b c → Rose a c
+rose_before a b c le (inl lt) = inl (omega arith)
+rose_before a b c le (inr e) = inr e
+
+pub take_joins : (bytes : List ℕ) (at n : ℕ) → take at bytes ++ take n (drop at bytes) ≡ take (at + n) bytes
+take_joins bytes at n = sym (take-add at n bytes)
+
+-- what a buffer got, and what is left
+pub front_read : (bytes slice buffer : List ℕ) (at n : ℕ) → slice ≡ bytes → take n buffer ≡ take n (take (length slice - at) (drop at slice)) → Some (drop at bytes) ≡ Some (take n buffer ++ drop (at + n) bytes)
+front_read bytes slice buffer at n same front =
+    ap Some (left_splits bytes at n ∙ ap (λ f. f ++ drop (at + n) bytes) (sym (front ∙ ap (take n) (take_rest slice at) ∙ ap (λ b. take n (drop at b)) same)))
+
+pub takes_more : (bytes : List ℕ) (at n : ℕ) (x y z : Option (List ℕ)) → Takes (take at bytes) x y → Takes (take n (take (length bytes - at) (drop at bytes))) y z → Takes (take (at + n) bytes) x z
+takes_more bytes at n x y z p q = let P : List ℕ → Type 0 = λ b. Takes b x z in subst P (ap (λ b. take at bytes ++ take n b) (take_rest bytes at) ∙ take_joins bytes at n) (takes_join (take at bytes) (take n (take (length bytes - at) (drop at bytes))) x y z p q)
