@@ -2,7 +2,7 @@
 use Rattle.std.proofs.Common.{◌≡◌, ℕ, ◌+◌, ◌-◌, ◌≤◌, min, sym, ◌∙◌, ap, subst, List, ◌++◌, length, take, drop, append_assoc, arith, Option, Some, None, inl, inr}
 use Rattle.std.specs.Option.{option_map}
 use Rattle.std.proofs.Math.Seq.{take-add}
-use Rattle.std.proofs.lemmas.List.{take-append-drop, drop-drop, take_rest}
+use Rattle.std.proofs.lemmas.List.{take-append-drop, drop-drop, take_rest, take-take, take-append-le, length-take}
 use Rattle.zm_base.specs.Outside.{IsFront, Takes, Counts, Rose, last_count}
 
 pub left_splits : (bytes : List ℕ) (at n : ℕ) → drop at bytes ≡ take n (drop at bytes) ++ drop (at + n) bytes
@@ -30,10 +30,18 @@ rose_before a b c le (inr e) = inr e
 pub take_joins : (bytes : List ℕ) (at n : ℕ) → take at bytes ++ take n (drop at bytes) ≡ take (at + n) bytes
 take_joins bytes at n = sym (take-add at n bytes)
 
--- what a buffer got, and what is left
-pub front_read : (bytes slice buffer : List ℕ) (at n : ℕ) → slice ≡ bytes → take n buffer ≡ take n (take (length slice - at) (drop at slice)) → Some (drop at bytes) ≡ Some (take n buffer ++ drop (at + n) bytes)
-front_read bytes slice buffer at n same front =
-    ap Some (left_splits bytes at n ∙ ap (λ f. f ++ drop (at + n) bytes) (sym (front ∙ ap (take n) (take_rest slice at) ∙ ap (λ b. take n (drop at b)) same)))
+-- What was put over the front of a buffer is its front now.
+pub front_put : (front buffer now : List ℕ) (n : ℕ) → n ≤ length front → now ≡ take n front ++ drop n buffer → take n now ≡ take n front
+front_put front buffer now n within put =
+    let fits : n ≤ length (take n front) = simp length-take (omega arith) in
+    ap (take n) put ∙ take-append-le n (take n front) (drop n buffer) fits ∙ take-take n n front (omega arith)
+
+-- What was left is what a buffer got and what is left now.
+pub front_read : (bytes slice buffer now : List ℕ) (at n : ℕ) → slice ≡ bytes → n ≤ length (take (length slice - at) (drop at slice)) → now ≡ take n (take (length slice - at) (drop at slice)) ++ drop n buffer → Some (drop at bytes) ≡ Some (take n now ++ drop (at + n) bytes)
+front_read bytes slice buffer now at n same within put =
+    let rest : take (length slice - at) (drop at slice) ≡ drop at bytes = take_rest slice at ∙ ap (drop at) same in
+    let got : take n now ≡ take n (drop at bytes) = front_put _ buffer now n within put ∙ ap (take n) rest in
+    ap Some (left_splits bytes at n ∙ ap (λ f. f ++ drop (at + n) bytes) (sym got))
 
 pub takes_more : (bytes : List ℕ) (at n : ℕ) (x y z : Option (List ℕ)) → Takes (take at bytes) x y → Takes (take n (take (length bytes - at) (drop at bytes))) y z → Takes (take (at + n) bytes) x z
 takes_more bytes at n x y z p q = let P : List ℕ → Type 0 = λ b. Takes b x z in subst P (ap (λ b. take at bytes ++ take n b) (take_rest bytes at) ∙ take_joins bytes at n) (takes_join (take at bytes) (take n (take (length bytes - at) (drop at bytes))) x y z p q)
