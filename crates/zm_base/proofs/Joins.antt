@@ -1,9 +1,9 @@
 -- Two calls in a row are as one.
-use Rattle.std.proofs.Common.{◌≡◌, ℕ, ◌+◌, ◌-◌, ◌≤◌, min, sym, ◌∙◌, ap, subst, List, ◌++◌, length, take, drop, append_assoc, arith, Option, Some, None, inl, inr}
+use Rattle.std.proofs.Common.{◌≡◌, ℕ, ◌+◌, ◌-◌, ◌≤◌, min, sym, ◌∙◌, ap, subst, List, ◌++◌, length, take, drop, append_assoc, arith, [], refl, Option, Some, None}
 use Rattle.std.specs.Option.{option_map}
 use Rattle.std.proofs.Math.Seq.{take-add}
-use Rattle.std.proofs.lemmas.List.{take-append-drop, drop-drop, take_rest, take-take, take-append-le, length-take}
-use Rattle.zm_base.specs.Outside.{IsFront, Takes, Counts, Rose, last_count}
+use Rattle.std.proofs.lemmas.List.{take-append-drop, drop-drop, take_rest, take-take, take-append-le, length-take, length-append}
+use Rattle.zm_base.specs.Outside.{IsFront, ReadsAtMost, Takes, Counts, last_count}
 
 pub left_splits : (bytes : List ℕ) (at n : ℕ) → drop at bytes ≡ take n (drop at bytes) ++ drop (at + n) bytes
 left_splits bytes at n = sym (take-append-drop n (drop at bytes)) ∙ ap (λ r. take n (drop at bytes) ++ r) (drop-drop n at bytes)
@@ -11,6 +11,13 @@ left_splits bytes at n = sym (take-append-drop n (drop at bytes)) ∙ ap (λ r. 
 pub fronts_join : (a b : List ℕ) (x y z : Option (List ℕ)) → IsFront a x y → IsFront b y z → IsFront (a ++ b) x z
 fronts_join a b x y None p q = p ∙ ap (option_map (λ rest. a ++ rest)) q
 fronts_join a b x y (Some r) p q = p ∙ ap (option_map (λ rest. a ++ rest)) q ∙ ap Some (sym (append_assoc a b r))
+
+pub reads_join : (a : List ℕ) (more most : ℕ) (x y z : Option (List ℕ)) → IsFront a x y → ReadsAtMost more y z → length a + more ≤ most → ReadsAtMost most x z
+reads_join a more most x y z p q within = record {
+  got = a ++ q.got;
+  within = simp length-append (omega (arith, q.within));
+  front = fronts_join a q.got x y z p q.front;
+}
 
 pub takes_join : (a b : List ℕ) (x y z : Option (List ℕ)) → Takes a x y → Takes b y z → Takes (a ++ b) x z
 takes_join a b None y z p q = q ∙ ap (option_map (λ held. held ++ b)) p
@@ -22,10 +29,6 @@ min_twice t m n = omega arith
 pub counts_join : (m n : ℕ) (x y z : Option ℕ) → Counts m x y → Counts n y z → Counts (m + n) x z
 counts_join m n None y z p q = q ∙ ap (option_map (λ t. min (t + n) last_count)) p
 counts_join m n (Some t) y z p q = q ∙ ap (option_map (λ t. min (t + n) last_count)) p ∙ ap Some (min_twice t m n)
-
-pub rose_before : (a b c : ℕ) → a ≤ b → Rose b c → Rose a c
-rose_before a b c le (inl lt) = inl (omega arith)
-rose_before a b c le (inr e) = inr e
 
 pub take_joins : (bytes : List ℕ) (at n : ℕ) → take at bytes ++ take n (drop at bytes) ≡ take (at + n) bytes
 take_joins bytes at n = sym (take-add at n bytes)

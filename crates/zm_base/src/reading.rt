@@ -1,5 +1,5 @@
-ghost use Rattle.std.specs.Prelude.{◌^◌, drop, List, ◌++◌, true, false, ℕ, Ok, Err, ◌≡◌, ◌<◌, ◌≤◌, ◌+◌, Some, [], length, take, IfOk, IfSome, OnOk, OnErr, IsErrOf};
-ghost use Rattle.zm_base.specs.Outside.{HasCause, Rose, IsFront, AtEnd};
+ghost use Rattle.std.specs.Prelude.{◌^◌, drop, List, ◌++◌, true, false, ℕ, Ok, Err, ◌≡◌, ◌<◌, ◌≤◌, ◌+◌, Some, [], length, take, IfOk, IfSome, OnOk, OnErr, IsErrOf, vec_len};
+ghost use Rattle.zm_base.specs.Outside.{HasCause, Rose, IsFront, ReadsAtMost, AtEnd};
 
 use crate::traits::Source;
 use std::alloc::{AllocError, Global};
@@ -11,17 +11,20 @@ pub enum ReadStop {
     Failed,
     /// There is a byte past the limit.
     TooLarge,
+    /// There was no memory for the bytes.
     Memory,
 }
 
 const PIECE: usize = 4096;
 
-// Reads once, at most `most` bytes, and puts them at the end of `got`. Says whether the source was at its end.
+// Reads once, at most `most` bytes, and puts them at the end of `got`. Says whether the source was
+// at its end.
 fn read_once<S: Source>(source: &mut S, got: &mut Vec<u8>, most: usize) -> Result<bool, ReadStop>
     requires { 0 < most }
     ensures got { IfOk result (λ ended. (piece : List ℕ) × (got.new.items ≡ got.old.items ++ piece) × (length piece ≤ most) × (ended ≡ false → 0 < length piece) × IsFront piece (S.left source.old) (S.left source.new)) }
     ensures ended { result ≡ Ok true → (got.new.items ≡ got.old.items) × AtEnd (S.left source.new) }
     ensures not_large { result ≡ Err ReadStop.TooLarge → ⊥ }
+    ensures reads { ReadsAtMost most (S.left source.old) (S.left source.new) }
     ensures later { S.faults source.old ≤ S.faults source.new }
     ensures failed { result ≡ Err ReadStop.Failed → Rose (S.faults source.old) (S.faults source.new) }
 {
@@ -40,21 +43,25 @@ fn read_once<S: Source>(source: &mut S, got: &mut Vec<u8>, most: usize) -> Resul
 }
 
 /// Reads a source to its end, unless it has more bytes than `limit`.
+///
+/// No more than `limit + 1` bytes are read, whatever comes. After an error the source stands where
+/// the call left it.
 pub fn read_to_limit<S: Source>(
     alloc: Global,
     source: &mut S,
     limit: usize,
 ) -> Result<Vec<u8>, ReadStop>
-    requires { limit < 2 ^ 63 }
     ensures all { IfOk result (λ bytes. IfSome (S.left source.old) (λ left. (bytes.items ≡ left) × (S.left source.new ≡ Some []))) }
-    ensures fits { IfOk result (λ bytes. length bytes.items ≤ limit) }
+    ensures fits { IfOk result (λ bytes. vec_len bytes ≤ limit) }
     ensures too_large { result ≡ Err ReadStop.TooLarge → IfSome (S.left source.old) (λ left. (limit < length left) × (S.left source.new ≡ Some (drop (limit + 1) left))) }
-    ensures later { S.faults source.old ≤ S.faults source.new }
     ensures failed { result ≡ Err ReadStop.Failed → Rose (S.faults source.old) (S.faults source.new) }
+
+    ensures reads { ReadsAtMost (limit + 1) (S.left source.old) (S.left source.new) }
+    ensures later { S.faults source.old ≤ S.faults source.new }
 {
     let mut got = Vec::new(alloc);
     loop {
-        let most = limit - got.len() + 1;
+        let most = (limit - got.len()).saturating_add(1);
         if read_once(source, &mut got, most)? {
             return Ok(got);
         }
