@@ -1,5 +1,5 @@
 -- Two calls in a row are as one.
-use Rattle.std.proofs.Common.{◌≡◌, ℕ, ◌+◌, ◌-◌, ◌≤◌, min, sym, ◌∙◌, ap, subst, List, ◌++◌, length, take, drop, append_assoc, arith, [], refl, Option, Some, None}
+use Rattle.std.proofs.Common.{◌≡◌, ℕ, ◌+◌, ◌-◌, ◌≤◌, min, sym, ◌∙◌, ap, subst, List, ◌++◌, length, take, drop, append_assoc, arith, Option, Some, None}
 use Rattle.std.specs.Option.{option_map}
 use Rattle.std.proofs.Math.Seq.{take-add}
 use Rattle.std.proofs.lemmas.List.{take-append-drop, drop-drop, take_rest, take-take, take-append-le, length-take, length-append}

@@ -1,7 +1,7 @@
 // A sink in memory.
-ghost use Rattle.std.specs.Prelude.{◌≡◌, ◌≤◌, ◌<◌, ◌↔◌, ◌++◌, ◌-◌, min, take, Some, [], ℕ, length, vec_len, vec_capacity, IfOk, IsErr, IsTrue, OnErr, Contains};
-ghost use Rattle.zm_base.specs.Outside.{HasCause, Takes, Counts, raised};
-ghost use Rattle.zm_base.specs.Memory.{number_of, Refuses};
+ghost use Rattle.std.specs.Prelude.{◌≡◌, ◌≤◌, ◌<◌, ◌↔◌, ◌++◌, ◌-◌, min, take, [], Some, length, IfOk, IsErr, IsTrue, OnErr};
+ghost use Rattle.zm_base.specs.Outside.{HasCause, Takes, Counts, number_of, raised};
+ghost use Rattle.zm_base.specs.Memory.{Refuses};
 
 use crate::traits::{Failed, Sink};
 use std::alloc::{AllocError, Global};
@@ -56,9 +56,10 @@ impl MemSink {
         })
     }
 
-    /// The bytes that it took.
+    /// The bytes that it took. There are never more than its capacity.
     pub fn held(&self) -> &[u8]
-        ensures { result.now ≡ self.now.held }
+        ensures bytes { result.now ≡ self.now.held }
+        ensures within { length result.now ≤ self.now.capacity }
     {
         &self.buffer
     }
@@ -74,9 +75,8 @@ impl MemSink {
 }
 
 impl Sink for MemSink {
-    ghost use Rattle.std.specs.Prelude.{min};
-    ghost use Rattle.std.proofs.Common.{arith};
-    ghost use Rattle.zm_base.specs.Memory.{number_of, number_fits};
+    ghost use Rattle.std.proofs.Math.Nat.{min-le_right};
+    ghost use Rattle.zm_base.specs.Outside.{last_count, number_of};
 
     ghost faults = { λ s. s.faults };
 
@@ -84,7 +84,7 @@ impl Sink for MemSink {
 
     ghost taken = { λ s. Some (number_of s.held) };
 
-    ghost taken_fits = { λ s. number_fits s.held };
+    ghost taken_fits = { λ s. min-le_right (length s.held) last_count };
 
     fn write(&mut self, bytes: &[u8]) -> Result<usize, Failed>
         ensures count { IfOk result (λ n. n ≤ length bytes.now) }

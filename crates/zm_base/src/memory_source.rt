@@ -1,5 +1,5 @@
 // Sources in memory.
-ghost use Rattle.std.specs.Prelude.{◌≡◌, ◌≤◌, ◌<◌, ◌↔◌, ◌++◌, min, take, drop, Some, ℕ, length, vec_len, IfOk, IsOk, IsErr, OnErr, Contains};
+ghost use Rattle.std.specs.Prelude.{◌≡◌, ◌≤◌, ◌<◌, ◌↔◌, ◌++◌, min, take, drop, Some, length, IfOk, IsOk, IsErr, OnErr, Contains};
 ghost use Rattle.zm_base.specs.Outside.{HasCause, IsFront, AtEnd, raised};
 
 use crate::traits::{Failed, Source};

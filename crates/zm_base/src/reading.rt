@@ -1,8 +1,8 @@
-ghost use Rattle.std.specs.Prelude.{◌^◌, drop, List, ◌++◌, true, false, ℕ, Ok, Err, ◌≡◌, ◌<◌, ◌≤◌, ◌+◌, Some, [], length, take, IfOk, IfSome, OnOk, OnErr, IsErrOf, vec_len};
-ghost use Rattle.zm_base.specs.Outside.{HasCause, Rose, IsFront, ReadsAtMost, AtEnd};
+ghost use Rattle.std.specs.Prelude.{◌≡◌, ◌<◌, ◌≤◌, ◌+◌, ◌++◌, true, false, ℕ, List, [], length, drop, vec_len, IfOk, IfSome};
+ghost use Rattle.zm_base.specs.Outside.{Rose, IsFront, ReadsAtMost, AtEnd};
 
 use crate::traits::Source;
-use std::alloc::{AllocError, Global};
+use std::alloc::Global;
 
 /// Why the bytes of a source were not all read.
 #[derive(Clone, Copy, Debug, PartialEq, Eq)]

@@ -1,5 +1,5 @@
 // The standard streams of the process.
-ghost use Rattle.std.specs.Prelude.{◌≡◌, ◌≤◌, ◌<◌, None, ℕ, length, take, IfOk, OnOk, OnErr};
+ghost use Rattle.std.specs.Prelude.{◌≡◌, ◌≤◌, ◌<◌, None, length, IfOk, OnOk, OnErr};
 ghost use Rattle.zm_base.specs.Outside.{HasCause, raised};
 
 use crate::traits::{Failed, Sink, Source};

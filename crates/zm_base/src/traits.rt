@@ -1,4 +1,4 @@
-ghost use Rattle.std.specs.Prelude.{IfSome, ◌≡◌, ◌<◌, ◌≤◌, ◌+◌, ℕ, List, length, take, Option, IfOk, OnOk, OnErr};
+ghost use Rattle.std.specs.Prelude.{◌≡◌, ◌<◌, ◌≤◌, ℕ, List, Option, length, take, IfOk, IfSome, OnOk, OnErr};
 ghost use Rattle.zm_base.specs.Outside.{HasCause, IsFront, AtEnd, Takes, Counts, TakesPrefix, last_count};
 
 /// The outside failed.
