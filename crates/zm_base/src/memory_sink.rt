@@ -27,9 +27,17 @@ impl Model for MemSink {
 
     ghost Value = { MemorySink };
 
-    ghost view = { λ s. record { held = s.buffer.items; capacity = s.capacity; piece = s.piece; fails = s.fails.items; calls = s.calls; faults = s.faults } };
+    ghost view = { λ s. record {
+      held = s.buffer.items;
+      capacity = s.capacity;
+      piece = s.piece;
+      fails = s.fails.items;
+      calls = s.calls;
+      faults = s.faults;
+    } };
 
-    ghost invariant = { λ s. (vec_len s.buffer ≤ s.capacity) × (s.capacity ≤ vec_capacity s.buffer) × (0 < s.piece) };
+    ghost invariant = { λ s. (vec_len s.buffer ≤ s.capacity)
+        × (s.capacity ≤ vec_capacity s.buffer) × (0 < s.piece) };
 }
 
 impl MemSink {
@@ -44,7 +52,14 @@ impl MemSink {
         fails: Vec<u64>,
     ) -> Result<Self, AllocError>
         requires { 0 < piece }
-        ensures { IfOk result (λ s. s ≡ record { held = []; capacity = capacity; piece = piece; fails = fails.items; calls = 0; faults = 0 }) }
+        ensures { IfOk result (λ s. s ≡ record {
+          held = [];
+          capacity = capacity;
+          piece = piece;
+          fails = fails.items;
+          calls = 0;
+          faults = 0;
+        }) }
     {
         Ok(MemSink {
             buffer: Vec::with_capacity(alloc, capacity)?,
@@ -90,15 +105,24 @@ impl Sink for MemSink {
         ensures count { IfOk result (λ n. n ≤ length bytes.now) }
         ensures some { IfOk result (λ n. 0 < length bytes.now → 0 < n) }
         ensures held { IfOk result (λ n. Takes (take n bytes.now) (Some self.old.held) (Some self.new.held)) }
-        ensures taken { IfOk result (λ n. Counts n (Some (number_of self.old.held)) (Some (number_of self.new.held))) }
-        ensures err { OnErr result ((Some self.new.held ≡ Some self.old.held) × (Some (number_of self.new.held) ≡ Some (number_of self.old.held))) }
+        ensures taken { IfOk result (λ n.
+            Counts n (Some (number_of self.old.held)) (Some (number_of self.new.held))) }
+        ensures err { OnErr result ((Some self.new.held ≡ Some self.old.held)
+            × (Some (number_of self.new.held) ≡ Some (number_of self.old.held))) }
         ensures cause { HasCause self.old.faults self.new.faults result }
 
         // What this sink does beyond what each sink does.
         ensures fails { IsErr result ↔ Refuses self.old bytes.now }
-        ensures amount { IfOk result (λ n. n ≡ min (length bytes.now) (min self.old.piece (self.old.capacity - length self.old.held))) }
-        ensures moves { IfOk result (λ n. self.new ≡ record self.old { held = self.old.held ++ take n bytes.now; calls = raised self.old.calls }) }
-        ensures stays { OnErr result (self.new ≡ record self.old { calls = raised self.old.calls; faults = raised self.old.faults }) }
+        ensures amount { IfOk result (λ n. n ≡ min (length bytes.now)
+            (min self.old.piece (self.old.capacity - length self.old.held))) }
+        ensures moves { IfOk result (λ n. self.new ≡ record self.old {
+          held = self.old.held ++ take n bytes.now;
+          calls = raised self.old.calls;
+        }) }
+        ensures stays { OnErr result (self.new ≡ record self.old {
+          calls = raised self.old.calls;
+          faults = raised self.old.faults;
+        }) }
     {
         let refused = self.refuses(bytes);
         let room = self.capacity - self.buffer.len();

@@ -24,7 +24,13 @@ impl Model for MemSource {
 
     ghost Value = { MemorySource };
 
-    ghost view = { λ s. record { left = drop s.at s.bytes.items; piece = s.piece; fails = s.fails.items; calls = s.calls; faults = s.faults } };
+    ghost view = { λ s. record {
+      left = drop s.at s.bytes.items;
+      piece = s.piece;
+      fails = s.fails.items;
+      calls = s.calls;
+      faults = s.faults;
+    } };
 
     ghost invariant = { λ s. (s.at ≤ vec_len s.bytes) × (0 < s.piece) };
 }
@@ -61,7 +67,13 @@ impl MemSource {
     /// numbers of the calls that fail, the first call being 1.
     pub fn new(bytes: Vec<u8>, piece: usize, fails: Vec<u64>) -> Self
         requires { 0 < piece }
-        ensures { result ≡ record { left = bytes.items; piece = piece; fails = fails.items; calls = 0; faults = 0 } }
+        ensures { result ≡ record {
+          left = bytes.items;
+          piece = piece;
+          fails = fails.items;
+          calls = 0;
+          faults = 0;
+        } }
     {
         MemSource {
             bytes,
@@ -81,17 +93,25 @@ impl Source for MemSource {
 
     fn read(&mut self, buffer: &mut [u8]) -> Result<usize, Failed>
         ensures count { IfOk result (λ n. n ≤ length buffer.old) }
-        ensures got { IfOk result (λ n. IsFront (take n buffer.new) (Some self.old.left) (Some self.new.left)) }
+        ensures got { IfOk result (λ n.
+            IsFront (take n buffer.new) (Some self.old.left) (Some self.new.left)) }
         ensures end { IfOk result (λ n. 0 < length buffer.old → n ≡ 0 → AtEnd (Some self.old.left)) }
         ensures err { OnErr result (Some self.new.left ≡ Some self.old.left) }
         ensures cause { HasCause self.old.faults self.new.faults result }
 
         // What this source does beyond what each source does.
         ensures fails { IsErr result ↔ Contains self.old.fails (raised self.old.calls) }
-        ensures amount { IfOk result (λ n. n ≡ min (length buffer.old) (min self.old.piece (length self.old.left))) }
+        ensures amount { IfOk result (λ n.
+            n ≡ min (length buffer.old) (min self.old.piece (length self.old.left))) }
         ensures bytes { IfOk result (λ n. buffer.new ≡ take n self.old.left ++ drop n buffer.old) }
-        ensures moves { IfOk result (λ n. self.new ≡ record self.old { left = drop n self.old.left; calls = raised self.old.calls }) }
-        ensures stays { OnErr result (self.new ≡ record self.old { calls = raised self.old.calls; faults = raised self.old.faults }) }
+        ensures moves { IfOk result (λ n. self.new ≡ record self.old {
+          left = drop n self.old.left;
+          calls = raised self.old.calls;
+        }) }
+        ensures stays { OnErr result (self.new ≡ record self.old {
+          calls = raised self.old.calls;
+          faults = raised self.old.faults;
+        }) }
         ensures untouched { OnErr result (buffer.new ≡ buffer.old) }
     {
         self.calls = self.calls.saturating_add(1);

@@ -21,7 +21,9 @@ const PIECE: usize = 4096;
 // at its end.
 fn read_once<S: Source>(source: &mut S, got: &mut Vec<u8>, most: usize) -> Result<bool, ReadStop>
     requires { 0 < most }
-    ensures got { IfOk result (λ ended. (piece : List ℕ) × (got.new.items ≡ got.old.items ++ piece) × (length piece ≤ most) × (ended ≡ false → 0 < length piece) × IsFront piece (S.left source.old) (S.left source.new)) }
+    ensures got { IfOk result (λ ended. (piece : List ℕ) × (got.new.items ≡ got.old.items ++ piece)
+        × (length piece ≤ most) × (ended ≡ false → 0 < length piece)
+        × IsFront piece (S.left source.old) (S.left source.new)) }
     ensures ended { result ≡ Ok true → (got.new.items ≡ got.old.items) × AtEnd (S.left source.new) }
     ensures not_large { result ≡ Err ReadStop.TooLarge → ⊥ }
     ensures reads { ReadsAtMost most (S.left source.old) (S.left source.new) }
@@ -51,9 +53,11 @@ pub fn read_to_limit<S: Source>(
     source: &mut S,
     limit: usize,
 ) -> Result<Vec<u8>, ReadStop>
-    ensures all { IfOk result (λ bytes. IfSome (S.left source.old) (λ left. (bytes.items ≡ left) × (S.left source.new ≡ Some []))) }
+    ensures all { IfOk result (λ bytes. IfSome (S.left source.old)
+        (λ left. (bytes.items ≡ left) × (S.left source.new ≡ Some []))) }
     ensures fits { IfOk result (λ bytes. vec_len bytes ≤ limit) }
-    ensures too_large { result ≡ Err ReadStop.TooLarge → IfSome (S.left source.old) (λ left. (limit < length left) × (S.left source.new ≡ Some (drop (limit + 1) left))) }
+    ensures too_large { result ≡ Err ReadStop.TooLarge → IfSome (S.left source.old)
+        (λ left. (limit < length left) × (S.left source.new ≡ Some (drop (limit + 1) left))) }
     ensures failed { result ≡ Err ReadStop.Failed → Rose (S.faults source.old) (S.faults source.new) }
 
     ensures reads { ReadsAtMost (limit + 1) (S.left source.old) (S.left source.new) }

@@ -45,7 +45,8 @@ pub trait Sink {
         ensures some { IfOk result (λ n. 0 < length bytes.now → 0 < n) }
         ensures held { IfOk result (λ n. Takes (take n bytes.now) (held self.old) (held self.new)) }
         ensures taken { IfOk result (λ n. Counts n (taken self.old) (taken self.new)) }
-        ensures err { OnErr result ((held self.new ≡ held self.old) × (taken self.new ≡ taken self.old)) }
+        ensures err { OnErr result
+            ((held self.new ≡ held self.old) × (taken self.new ≡ taken self.old)) }
         ensures cause { HasCause (faults self.old) (faults self.new) result };
 
     /// The number of the bytes that it took stays at the last value of a count.
@@ -58,7 +59,8 @@ pub trait Sink {
 pub fn write_all<K: Sink>(sink: &mut K, bytes: &[u8]) -> Result<(), Failed>
     ensures held { OnOk result (Takes bytes.now (K.held sink.old) (K.held sink.new)) }
     ensures taken { OnOk result (Counts (length bytes.now) (K.taken sink.old) (K.taken sink.new)) }
-    ensures prefix { OnErr result (TakesPrefix bytes.now (K.held sink.old) (K.held sink.new) (K.taken sink.old) (K.taken sink.new)) }
+    ensures prefix { OnErr result (TakesPrefix bytes.now
+        (K.held sink.old) (K.held sink.new) (K.taken sink.old) (K.taken sink.new)) }
     ensures cause { HasCause (K.faults sink.old) (K.faults sink.new) result }
 {
     let mut at = 0;
