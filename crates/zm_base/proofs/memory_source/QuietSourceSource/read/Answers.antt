@@ -1,0 +1,7 @@
+use Rattle.std.proofs.Common.{Some, sym, ◌∙◌, ap, arith}
+use Rattle.zm_base.proofs.Joins.{front_read}
+use Rattle.zm_base.proofs.memory_source.QuietSourceSource.read.Goals as goal
+
+pub returns-clause-got : goal.returns-clause-got
+returns-clause-got c =
+    ap Some (sym c.self.view_is) ∙ front_read _ _ _ _ _ _ c.deref.ensures.value (omega arith) c.copy_front-n.ensures.front
