@@ -4,6 +4,7 @@ use Rattle.std.proofs.lemmas.Bool.Decides.{Decides-eqb}
 use Rattle.zm_logic.specs.Tree.{Ty, Tys, Term, Terms, Form, Opening, Symbol}
 use Rattle.zm_logic.specs.Opening.{type_at, term_at, open_type, open_types, open_term, open_terms, open_at}
 use Rattle.zm_logic.specs.Index.{IsClosedType, AreClosedTypes, IsClosedTerm, AreClosedTerms, IsClosed}
+use Rattle.zm_logic.specs.Laws as laws
 use Rattle.zm_logic.specs.Typing.{IsType, AreTypes, HasType, HaveTypes, WellTyped, argument_types}
 
 -- a type over no type variables has no loose index
@@ -90,3 +91,6 @@ module _ (symbols : List Symbol) where
   form_is_closed (WellTyped.binary h g) = (form_is_closed h, form_is_closed g)
   form_is_closed (WellTyped.quantified {t = t} {f = f} n fresh it h) = (type_is_closed symbols t it, closed_before (Opening.of_term (Term.eps n t)) 0 f (form_is_closed h))
   form_is_closed (WellTyped.for_all_types {f = f} n fresh h) = closed_before (Opening.of_type (Ty.param n)) 0 f (form_is_closed h)
+
+pub forms_are_closed : laws.WellTypedFormsAreClosed
+forms_are_closed symbols f w = form_is_closed symbols w

@@ -11,3 +11,4 @@ pub mod Renaming
 pub mod Weakening
 pub mod Examples
 pub mod Identity
+pub mod Valuation

@@ -3,6 +3,7 @@ use Rattle.std.proofs.Common.{◌≡◌, Bool, true, false, ◌&&◌, ◌||◌, 
 use Rattle.std.proofs.lemmas.Bool.{eqb-true, eq-eqb}
 use Rattle.std.proofs.lemmas.List.Elements.{Contains-append_left, Contains-append_right, Contains-append_cases, Contains-push, Contains-push_cases}
 use Rattle.zm_logic.specs.Tree.{Ty, Tys, Term, Terms, Form, Connective, Quantifier}
+use Rattle.zm_logic.specs.Laws as laws
 use Rattle.zm_logic.specs.Same.{same_connective, same_quantifier, same_type, same_types, same_term, same_terms, same, has}
 
 pub both_true : (a b : Bool) → (a && b) ≡ true → (a ≡ true) × (b ≡ true)
@@ -158,3 +159,15 @@ pub contains-has : (gs : List Form) (f : Form) → Contains gs f → has gs f �
 contains-has [] f h = absurd (Contains-none f h)
 contains-has (g ∷ gs) f h =
     elim (Contains-cases g gs f h) [ inl e ↦ or_left (same g f) (has gs f) (rw e (same-self f)) | inr a ↦ or_right (same g f) (has gs f) (contains-has gs f a) ]
+
+pub types_decided : laws.SameTypesAreEqual
+types_decided t u = (same_type-true t u, λ e. rw e (same_type-self u))
+
+pub terms_decided : laws.SameTermsAreEqual
+terms_decided a b = (same_term-true a b, λ e. rw e (same_term-self b))
+
+pub forms_decided : laws.SameFormsAreEqual
+forms_decided f g = (same-true f g, λ e. rw e (same-self g))
+
+pub membership_decided : laws.HasIsMembership
+membership_decided fs f = (has-contains fs f, contains-has fs f)

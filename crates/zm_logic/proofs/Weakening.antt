@@ -10,7 +10,7 @@ use Rattle.zm_logic.proofs.Substitution.{Substitution, sub_type, sub_types, sub_
 use Rattle.zm_logic.proofs.Each.{each, some_fresh_for_all}
 use Rattle.zm_logic.proofs.Typed.{rename_eps, rename_param, sub_at_eps, sub_at_param, agree_eps, agree_param, sub_is_type, sub_has_type, sub_have_types, declared_types_sub, no_parameters}
 use Rattle.zm_logic.proofs.Renaming.{Renames, renames_closed, renames_puts, renames_eps, renames_param, respects_renamed_term, respects_renamed_terms, congruent_sub}
-use Rattle.zm_logic.specs.Laws.{AreWithoutParameters}
+use Rattle.zm_logic.specs.Laws.{AreWithoutParameters, WeakeningIsAdmissible}
 use Rattle.zm_logic.proofs.Instance.{identity, form_itself}
 
 -- each formula of gamma, renamed, stands in delta
@@ -187,3 +187,6 @@ module _ (symbols : List Symbol) (rules : List Rule) (sig : IsSignature symbols)
   weaken gamma delta w d =
       renamed identity (record { types = λ n. (n, refl); terms = λ n. (n, λ t. refl) }) delta
       (λ f c. subst (Contains delta) (sym (form_itself f)) (w f c)) d
+
+pub weakening : WeakeningIsAdmissible
+weakening symbols rules gamma delta sig free w d = weaken symbols rules sig free gamma delta w d

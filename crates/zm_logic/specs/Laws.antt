@@ -1,5 +1,5 @@
 -- What the definitions promise of one another. Each statement is the contract of a function of the module laws.
-use Rattle.std.specs.Prelude.{ℕ, codes, ◌≡◌, ◌↔◌, true, List, [], ◌∷◌, All}
+use Rattle.std.specs.Prelude.{ℕ, codes, ◌≡◌, ◌↔◌, Bool, true, false, not, List, [], ◌∷◌, All}
 use Rattle.std.specs.List.{Contains}
 use Rattle.zm_logic.specs.Tree.{Ty, Tys, Term, Terms, Form, Side, Rule, Symbol, Sense, Quantifier, both, implies, for_all, exists}
 use Rattle.zm_logic.specs.Opening.{at_term, at_type, close}
@@ -9,7 +9,7 @@ use Rattle.zm_logic.specs.Typing.{IsType, HasType, WellTyped, IsSignature, indiv
 use Rattle.zm_logic.specs.Rewriting.{Congruent}
 use Rattle.zm_logic.specs.Calculus.{Derives}
 use Rattle.zm_logic.specs.Same.{same_type, same_term, same, has}
-use Rattle.zm_logic.specs.Truth.{Valued, IsQuantifierFree, IsTrueUnder}
+use Rattle.zm_logic.specs.Truth.{Valued, IsQuantifierFree, IsTrueUnder, connected}
 
 -- the test of sameness decides equality of types, of terms and of formulas
 abbrev pub SameTypesAreEqual : Type 0
@@ -110,6 +110,35 @@ abbrev pub RefutedFormsAreNotAllTrue : Type 0
 RefutedFormsAreNotAllTrue =
     (symbols : List Symbol) (gamma : List Form) (v : List Valued) → All IsQuantifierFree gamma
     → Derives symbols [] gamma → All (IsTrueUnder v) gamma → ⊥
+
+-- a formula with no quantifier
+abbrev pub HasNoQuantifier : Form → Type 0
+HasNoQuantifier Form.truth = Unit {0}
+HasNoQuantifier Form.falsity = Unit {0}
+HasNoQuantifier (Form.atom p ts us) = Unit {0}
+HasNoQuantifier (Form.equal t a b) = Unit {0}
+HasNoQuantifier (Form.negation f) = HasNoQuantifier f
+HasNoQuantifier (Form.binary c f g) = HasNoQuantifier f × HasNoQuantifier g
+HasNoQuantifier (Form.quantified q t f) = ⊥
+HasNoQuantifier (Form.for_all_types f) = ⊥
+
+-- its truth table over the truth of its atoms, where each term stands for itself: two terms are equal where they are the
+-- same tree
+abbrev pub truth_in_terms : (Form → Bool) → Form → Bool
+truth_in_terms v Form.truth = true
+truth_in_terms v Form.falsity = false
+truth_in_terms v (Form.atom p ts us) = v (Form.atom p ts us)
+truth_in_terms v (Form.equal t a b) = same_term a b
+truth_in_terms v (Form.negation f) = not (truth_in_terms v f)
+truth_in_terms v (Form.binary c f g) = connected c (truth_in_terms v f) (truth_in_terms v g)
+truth_in_terms v (Form.quantified q t f) = false
+truth_in_terms v (Form.for_all_types f) = false
+
+-- the same with equality: formulas with no quantifier that are refuted with no rules are not all true of the terms themselves
+abbrev pub RefutedFormsAreNotAllTrueInTerms : Type 0
+RefutedFormsAreNotAllTrueInTerms =
+    (symbols : List Symbol) (gamma : List Form) (v : Form → Bool) → All HasNoQuantifier gamma
+    → Derives symbols [] gamma → All (λ f. truth_in_terms v f ≡ true) gamma → ⊥
 
 -- consistency: the empty sequent has no derivation, and an atom alone has none
 abbrev pub NothingIsNotRefuted : Type 0
