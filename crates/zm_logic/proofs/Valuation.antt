@@ -1,13 +1,13 @@
 -- Truth tables agree with the calculus: formulas with no quantifier that are refuted with no rules are not all true, where
 -- an equality is true between equal trees alone.
-use Rattle.std.proofs.Common.{◌≡◌, suc, Bool, true, false, not, ◌&&◌, ◌||◌, cond, ◌⊎◌, inl, inr, refl, ap, sym, ◌∙◌, subst, arith, List, [], ◌∷◌, All}
+use Rattle.std.proofs.Common.{◌≡◌, suc, Bool, true, false, not, ◌&&◌, ◌||◌, cond, ◌⊎◌, inl, inr, refl, ap, sym, ◌∙◌, subst, arith, List, [], ◌∷◌, All, map}
 use Rattle.std.specs.List.{Contains}
-use Rattle.std.proofs.lemmas.List.Elements.{All-contains}
+use Rattle.std.proofs.lemmas.List.Elements.{All-contains, All-append, All-map}
 use Rattle.zm_logic.specs.Tree.{Ty, Tys, Term, Terms, Form, Connective, Symbol, both, either, implies, iff, for_all, exists, differ}
 use Rattle.zm_logic.specs.Typing.{HaveTypes, argument_types}
 use Rattle.zm_logic.specs.Calculus.{Derives, DerivesEach, differ_each}
 use Rattle.zm_logic.specs.Same.{same_term}
-use Rattle.zm_logic.specs.Truth.{Valued, IsQuantifierFree, truth_of, value_of, connected}
+use Rattle.zm_logic.specs.Truth.{Valued, IsQuantifierFree, IsTrueUnder, truth_of, value_of, connected, refuted}
 use Rattle.zm_logic.specs.Laws as laws
 use Rattle.zm_logic.specs.Laws.{HasNoQuantifier, truth_in_terms}
 use Rattle.zm_logic.proofs.Sames.{both_true, either_true, same_term-self, same_term-true, same-self, only, Contains-none}
@@ -101,32 +101,32 @@ module _ (symbols : List Symbol) (v : Form → Bool) where
     sound g (Derives.disjunction {gamma = s} a b c d e) =
         let x = g (either a b) c in
         elim (either_true (truth_in_terms v a) (truth_in_terms v b) x.1) [
-          inl y ↦ sound (grow a s (x.0.0, y) g) d
-        | inr y ↦ sound (grow b s (x.0.1, y) g) e
+          | inl y ↦ sound (grow a s (x.0.0, y) g) d
+          | inr y ↦ sound (grow b s (x.0.1, y) g) e
         ]
     sound g (Derives.not_and {gamma = s} a b c d e) =
         let x = g (Form.negation (both a b)) c in
         elim (not_both (truth_in_terms v a) (truth_in_terms v b) x.1) [
-          inl y ↦ sound (grow (Form.negation a) s (x.0.0, y) g) d
-        | inr y ↦ sound (grow (Form.negation b) s (x.0.1, y) g) e
+          | inl y ↦ sound (grow (Form.negation a) s (x.0.0, y) g) d
+          | inr y ↦ sound (grow (Form.negation b) s (x.0.1, y) g) e
         ]
     sound g (Derives.implication {gamma = s} a b c d e) =
         let x = g (implies a b) c in
         elim (either_true (not (truth_in_terms v a)) (truth_in_terms v b) x.1) [
-          inl y ↦ sound (grow (Form.negation a) s (x.0.0, y) g) d
-        | inr y ↦ sound (grow b s (x.0.1, y) g) e
+          | inl y ↦ sound (grow (Form.negation a) s (x.0.0, y) g) d
+          | inr y ↦ sound (grow b s (x.0.1, y) g) e
         ]
     sound g (Derives.equivalence {gamma = s} a b c d e) =
         let x = g (iff a b) c in
         elim (alike (truth_in_terms v a) (truth_in_terms v b) x.1) [
-          inl y ↦ sound (grow a (b ∷ s) (x.0.0, y.0) (grow b s (x.0.1, y.1) g)) d
-        | inr y ↦ sound (grow (Form.negation a) (Form.negation b ∷ s) (x.0.0, y.0) (grow (Form.negation b) s (x.0.1, y.1) g)) e
+          | inl y ↦ sound (grow a (b ∷ s) (x.0.0, y.0) (grow b s (x.0.1, y.1) g)) d
+          | inr y ↦ sound (grow (Form.negation a) (Form.negation b ∷ s) (x.0.0, y.0) (grow (Form.negation b) s (x.0.1, y.1) g)) e
         ]
     sound g (Derives.not_iff {gamma = s} a b c d e) =
         let x = g (Form.negation (iff a b)) c in
         elim (unlike (truth_in_terms v a) (truth_in_terms v b) x.1) [
-          inl y ↦ sound (grow a (Form.negation b ∷ s) (x.0.0, y.0) (grow (Form.negation b) s (x.0.1, y.1) g)) d
-        | inr y ↦ sound (grow (Form.negation a) (b ∷ s) (x.0.0, y.0) (grow b s (x.0.1, y.1) g)) e
+          | inl y ↦ sound (grow a (Form.negation b ∷ s) (x.0.0, y.0) (grow (Form.negation b) s (x.0.1, y.1) g)) d
+          | inr y ↦ sound (grow (Form.negation a) (b ∷ s) (x.0.0, y.0) (grow b s (x.0.1, y.1) g)) e
         ]
     sound g (Derives.existential t f n c h d) = absurd (g (exists t f) c).0
     sound g (Derives.not_for_all t f n c h d) = absurd (g (Form.negation (for_all t f)) c).0
@@ -145,22 +145,22 @@ module _ (symbols : List Symbol) (v : Form → Bool) where
         (g (differ t (Term.app f ts us) (Term.app f ts vs)) c).1
     sound g (Derives.transitive_first {gamma = s} t a b c d x y h k) =
         elim (decide (same_term c a)) [
-          inr e ↦ sound (grow (differ t c a) s (tt, e) g) h
-        | inl e ↦ elim (decide (same_term b d)) [
-            inr l ↦ sound (grow (differ t b d) s (tt, l) g) k
-          | inl l ↦
-              let same = same_term-true c a e ∙ same_term-true a b (g (Form.equal t a b) x).1 ∙ same_term-true b d l in
-              clash (same_term c d) (subst (λ z. same_term c z ≡ true) same (same_term-self c)) (g (differ t c d) y).1
+          | inr e ↦ sound (grow (differ t c a) s (tt, e) g) h
+          | inl e ↦ elim (decide (same_term b d)) [
+            | inr l ↦ sound (grow (differ t b d) s (tt, l) g) k
+            | inl l ↦
+                let same = same_term-true c a e ∙ same_term-true a b (g (Form.equal t a b) x).1 ∙ same_term-true b d l in
+                clash (same_term c d) (subst (λ z. same_term c z ≡ true) same (same_term-self c)) (g (differ t c d) y).1
           ]
         ]
     sound g (Derives.transitive_second {gamma = s} t a b c d x y h k) =
         elim (decide (same_term c b)) [
-          inr e ↦ sound (grow (differ t c b) s (tt, e) g) h
-        | inl e ↦ elim (decide (same_term a d)) [
-            inr l ↦ sound (grow (differ t a d) s (tt, l) g) k
-          | inl l ↦
-              let same = same_term-true c b e ∙ sym (same_term-true a b (g (Form.equal t a b) x).1) ∙ same_term-true a d l in
-              clash (same_term c d) (subst (λ z. same_term c z ≡ true) same (same_term-self c)) (g (differ t c d) y).1
+          | inr e ↦ sound (grow (differ t c b) s (tt, e) g) h
+          | inl e ↦ elim (decide (same_term a d)) [
+            | inr l ↦ sound (grow (differ t a d) s (tt, l) g) k
+            | inl l ↦
+                let same = same_term-true c b e ∙ sym (same_term-true a b (g (Form.equal t a b) x).1) ∙ same_term-true a d l in
+                clash (same_term c d) (subst (λ z. same_term c z ≡ true) same (same_term-self c)) (g (differ t c d) y).1
           ]
         ]
     sound g (Derives.conversion {gamma = s} f h c e d) =
@@ -170,8 +170,8 @@ module _ (symbols : List Symbol) (v : Form → Bool) where
     none_good g DerivesEach.none f c h = Contains-none f c
     none_good g (DerivesEach.more {f = x} {fs = fs} {gamma = s} d each) f c h =
         elim (first_or_later x f fs c) [
-          inl e ↦ sound (grow x s (subst Good (sym e) h) g) d
-        | inr k ↦ none_good g each f k h
+          | inl e ↦ sound (grow x s (subst Good (sym e) h) g) d
+          | inr k ↦ none_good g each f k h
         ]
 
 -- a formula with no quantifier and no equality has the truth value that its truth table gives
@@ -209,6 +209,13 @@ not_all_true symbols gamma v free d true_ =
       has_no_quantifier f h,
       same_truth (value_of v) f h ∙ All-contains (λ g. truth_of (value_of v) g ≡ true) gamma f true_ c,
     )) d
+
+pub not_falsified : laws.FalsifiedProblemsAreNotRefuted
+not_falsified problem v free f d =
+    not_all_true problem.symbols (refuted problem) v free d
+    (All-append (IsTrueUnder v) (map (λ premise. premise.form) problem.premises) (Form.negation problem.conjecture ∷ [])
+    (All-map (IsTrueUnder v) (λ premise. premise.form) problem.premises f.premises)
+    (λ k d h. subst (IsTrueUnder v) (only (Form.negation problem.conjecture) _ (k, h, refl)) (ap not f.conjecture)))
 
 pub nothing : laws.NothingIsNotRefuted
 nothing symbols d = sound symbols (λ f. true) (λ f c. absurd (Contains-none f c)) d

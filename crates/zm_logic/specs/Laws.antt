@@ -1,7 +1,7 @@
 -- What the definitions promise of one another. Each statement is the contract of a function of the module laws.
 use Rattle.std.specs.Prelude.{ℕ, codes, ◌≡◌, ◌↔◌, Bool, true, false, not, List, [], ◌∷◌, All}
 use Rattle.std.specs.List.{Contains}
-use Rattle.zm_logic.specs.Tree.{Ty, Tys, Term, Terms, Form, Side, Rule, Symbol, Sense, Quantifier, both, implies, for_all, exists}
+use Rattle.zm_logic.specs.Tree.{Ty, Tys, Term, Terms, Form, Problem, Side, Rule, Symbol, Sense, Quantifier, both, implies, for_all, exists}
 use Rattle.zm_logic.specs.Opening.{at_term, at_type, close}
 use Rattle.zm_logic.specs.Parameter.{EachInTerm, EachIn, Never, IsFresh}
 use Rattle.zm_logic.specs.Index.{IsClosed}
@@ -9,7 +9,7 @@ use Rattle.zm_logic.specs.Typing.{IsType, HasType, WellTyped, IsSignature, indiv
 use Rattle.zm_logic.specs.Rewriting.{Congruent}
 use Rattle.zm_logic.specs.Calculus.{Derives}
 use Rattle.zm_logic.specs.Same.{same_type, same_term, same, has}
-use Rattle.zm_logic.specs.Truth.{Valued, IsQuantifierFree, IsTrueUnder, connected}
+use Rattle.zm_logic.specs.Truth.{Valued, IsQuantifierFree, IsTrueUnder, Falsifies, refuted, connected}
 
 -- the test of sameness decides equality of types, of terms and of formulas
 abbrev pub SameTypesAreEqual : Type 0
@@ -139,6 +139,12 @@ abbrev pub RefutedFormsAreNotAllTrueInTerms : Type 0
 RefutedFormsAreNotAllTrueInTerms =
     (symbols : List Symbol) (gamma : List Form) (v : Form → Bool) → All HasNoQuantifier gamma
     → Derives symbols [] gamma → All (λ f. truth_in_terms v f ≡ true) gamma → ⊥
+
+-- so no problem without quantifiers and equality is both falsified by a valuation and proved with no rules
+abbrev pub FalsifiedProblemsAreNotRefuted : Type 0
+FalsifiedProblemsAreNotRefuted =
+    (problem : Problem) (v : List Valued) → All IsQuantifierFree (refuted problem)
+    → Falsifies v problem → Derives problem.symbols [] (refuted problem) → ⊥
 
 -- consistency: the empty sequent has no derivation, and an atom alone has none
 abbrev pub NothingIsNotRefuted : Type 0

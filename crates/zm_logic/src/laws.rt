@@ -127,6 +127,11 @@ pub fn refuted_forms_are_not_all_true_in_terms()
     ensures { RefutedFormsAreNotAllTrueInTerms }
 {}
 
+/// A problem without quantifiers and equality that a valuation falsifies isn't proved with no rules.
+pub fn falsified_problems_are_not_refuted()
+    ensures { FalsifiedProblemsAreNotRefuted }
+{}
+
 /// With no rules the empty sequent has no derivation.
 #[tactic(auto, using(crate::proofs::Valuation::nothing))]
 pub fn nothing_is_not_refuted()

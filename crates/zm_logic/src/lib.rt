@@ -7,6 +7,8 @@ pub mod laws;
 mod measures;
 mod problem;
 mod sameness;
+#[cfg(test)]
+mod tests;
 mod text;
 mod tree;
 
