@@ -1,6 +1,6 @@
 -- Truth tables agree with the calculus: formulas with no quantifier that are refuted with no rules are not all true, where
 -- an equality is true between equal trees alone.
-use Rattle.std.proofs.Common.{◌≡◌, suc, Bool, true, false, not, ◌&&◌, ◌||◌, cond, ◌⊎◌, inl, inr, refl, ap, sym, ◌∙◌, subst, arith, List, [], ◌∷◌, All, map}
+use Rattle.std.proofs.Common.{◌≡◌, zero, suc, Bool, true, false, not, ◌&&◌, ◌||◌, cond, ◌⊎◌, inl, inr, refl, ap, sym, ◌∙◌, subst, arith, List, [], ◌∷◌, All, map}
 use Rattle.std.specs.List.{Contains}
 use Rattle.std.proofs.lemmas.List.Elements.{All-contains, All-append, All-map}
 use Rattle.zm_logic.specs.Tree.{Ty, Tys, Term, Terms, Form, Connective, Symbol, both, either, implies, iff, for_all, exists, differ}
@@ -210,12 +210,16 @@ not_all_true symbols gamma v free d true_ =
       same_truth (value_of v) f h ∙ All-contains (λ g. truth_of (value_of v) g ≡ true) gamma f true_ c,
     )) d
 
+single : (P : Form → Type 0) (x : Form) → P x → All P (x ∷ [])
+single P x h zero d l = h
+single P x h (suc k) d l = absurd (omega arith)
+
 pub not_falsified : laws.FalsifiedProblemsAreNotRefuted
 not_falsified problem v free f d =
     not_all_true problem.symbols (refuted problem) v free d
     (All-append (IsTrueUnder v) (map (λ premise. premise.form) problem.premises) (Form.negation problem.conjecture ∷ [])
     (All-map (IsTrueUnder v) (λ premise. premise.form) problem.premises f.premises)
-    (λ k d h. subst (IsTrueUnder v) (only (Form.negation problem.conjecture) _ (k, h, refl)) (ap not f.conjecture)))
+    (single (IsTrueUnder v) (Form.negation problem.conjecture) (ap not f.conjecture)))
 
 pub nothing : laws.NothingIsNotRefuted
 nothing symbols d = sound symbols (λ f. true) (λ f c. absurd (Contains-none f c)) d

@@ -59,7 +59,7 @@ truth_of v (Form.for_all_types f) = false
 abbrev pub IsTrueUnder : List Valued → Form → Type 0
 IsTrueUnder v f = truth_of (value_of v) f ≡ true
 
--- every premise is true, and the conjecture is false
+-- every premise is true, and the conjecture is false: said of problems with no quantifier and no equality
 pub record Falsifies (v : List Valued) (p : Problem) : Type 0 where
   pub premises : All (λ premise. IsTrueUnder v premise.form) p.premises
   pub conjecture : truth_of (value_of v) p.conjecture ≡ false

@@ -7,7 +7,7 @@ ghost use Rattle.zm_logic.specs.Laws.{WeakeningIsAdmissible, ContradictionsAreRe
 ghost use Rattle.zm_logic.specs.Laws.{DrinkerIsDerived, SymmetryIsDerived, TransitivityIsDerived};
 ghost use Rattle.zm_logic.specs.Laws.{CongruenceWithoutRulesIsEquality, CongruenceIsSymmetric, CongruenceIsTransitive};
 ghost use Rattle.zm_logic.specs.Laws.{RefutedFormsAreNotAllTrue, RefutedFormsAreNotAllTrueInTerms, NothingIsNotRefuted};
-ghost use Rattle.zm_logic.specs.Laws.{AtomsAreNotRefuted, RulesMakeCongruent, RulesRefute};
+ghost use Rattle.zm_logic.specs.Laws.{FalsifiedProblemsAreNotRefuted, AtomsAreNotRefuted, RulesMakeCongruent, RulesRefute};
 
 /// The test of sameness of types decides equality.
 #[tactic(auto, using(crate::proofs::Sames::types_decided))]
