@@ -1,6 +1,6 @@
 -- Worked derivations: the definitions are inhabited.
 use Rattle.std.proofs.Common.{ℕ, List, [], ◌∷◌, refl, arith}
-use Rattle.zm_logic.specs.Tree.{Rule, Ty, Tys, Term, Terms, Form, Symbol, both, implies, for_all, differ}
+use Rattle.zm_logic.specs.Tree.{Tys, Term, Terms, Form, Symbol, both, implies, for_all}
 use Rattle.zm_logic.specs.Parameter.{IsFreshForAll}
 use Rattle.zm_logic.specs.Typing.{IsType, WellTyped, individual, individuals}
 use Rattle.zm_logic.specs.Rewriting.{Fit, Step, Congruent}

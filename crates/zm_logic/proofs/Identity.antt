@@ -1,5 +1,5 @@
 -- The congruence: it is an equivalence, and equality where there are no rules.
-use Rattle.std.proofs.Common.{◌≡◌, List, [], ◌∷◌, refl, arith}
+use Rattle.std.proofs.Common.{◌≡◌, List, [], refl, arith}
 use Rattle.zm_logic.specs.Tree.{Term, Terms, Form, Side, Symbol, Rule}
 use Rattle.zm_logic.specs.Typing.{WellTyped}
 use Rattle.zm_logic.specs.Rewriting.{RewritesBySome, TermStep, TermsStep, Step, Congruent}

@@ -1,6 +1,5 @@
 -- Steps and the congruence are kept under renamings of type parameters and epsilon terms.
 use Rattle.std.proofs.Common.{ℕ, ◌≡◌, ◌==◌, Bool, true, false, if◌then◌else◌, inl, refl, ap, sym, ◌∙◌, subst, List, [], ◌∷◌, map, length}
-use Rattle.std.specs.List.{Contains}
 use Rattle.std.proofs.lemmas.List.{length-map}
 use Rattle.zm_logic.specs.Tree.{Ty, Tys, Term, Terms, Form, Opening, Symbol, Side, Rule, Binder}
 use Rattle.zm_logic.specs.Opening.{open_type, open_term, open_at, at_term, at_type, side_instance}

@@ -3,14 +3,14 @@
 use Rattle.std.proofs.Common.{◌≡◌, zero, suc, Bool, true, false, not, ◌&&◌, ◌||◌, cond, ◌⊎◌, inl, inr, refl, ap, sym, ◌∙◌, subst, arith, List, [], ◌∷◌, All, map}
 use Rattle.std.specs.List.{Contains}
 use Rattle.std.proofs.lemmas.List.Elements.{All-contains, All-append, All-map}
-use Rattle.zm_logic.specs.Tree.{Ty, Tys, Term, Terms, Form, Connective, Symbol, both, either, implies, iff, for_all, exists, differ}
+use Rattle.zm_logic.specs.Tree.{Tys, Term, Terms, Form, Symbol, both, either, implies, iff, for_all, exists, differ}
 use Rattle.zm_logic.specs.Typing.{HaveTypes, argument_types}
 use Rattle.zm_logic.specs.Calculus.{Derives, DerivesEach, differ_each}
 use Rattle.zm_logic.specs.Same.{same_term}
-use Rattle.zm_logic.specs.Truth.{Valued, IsQuantifierFree, IsTrueUnder, truth_of, value_of, connected, refuted}
+use Rattle.zm_logic.specs.Truth.{IsQuantifierFree, IsTrueUnder, truth_of, value_of, connected, refuted}
 use Rattle.zm_logic.specs.Laws as laws
 use Rattle.zm_logic.specs.Laws.{HasNoQuantifier, truth_in_terms}
-use Rattle.zm_logic.proofs.Sames.{both_true, either_true, same_term-self, same_term-true, same-self, only, Contains-none}
+use Rattle.zm_logic.proofs.Sames.{both_true, either_true, same_term-self, same_term-true, only, Contains-none}
 use Rattle.zm_logic.proofs.Weakening.{first_or_later}
 use Rattle.zm_logic.proofs.Identity.{without_rules}
 

@@ -1,6 +1,6 @@
 -- Valuations of ground atoms, and truth under a valuation, for formulas with no quantifier and no equality.
 use Rattle.std.specs.Prelude.{Bool, true, false, not, ◌&&◌, ◌||◌, ◌≡◌, ◌≢◌, cond, List, [], ◌∷◌, ◌++◌, All, map}
-use Rattle.std.specs.List.{Contains, AllPairs}
+use Rattle.std.specs.List.{AllPairs}
 use Rattle.zm_logic.specs.Tree.{Form, Connective, Problem}
 use Rattle.zm_logic.specs.Parameter.{HasNoParameter}
 use Rattle.zm_logic.specs.Index.{IsClosed}
