@@ -18,7 +18,7 @@ IsGroundAtom _ = ⊥
 
 -- a valuation: a finite list of distinct ground atoms with truth values
 pub record IsValuation (v : List Valued) : Type 0 where
-  pub ground : All (λ x. IsGroundAtom x.atom) v
+  pub atoms : All (λ x. IsGroundAtom x.atom) v
   pub distinct : AllPairs (λ x y. x.atom ≢ y.atom) v
 
 -- the truth value of an atom; an atom that isn't listed counts as false
