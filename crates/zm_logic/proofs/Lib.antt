@@ -1,2 +1,14 @@
 pub mod Lists
 pub mod SameLists
+pub mod Sames
+pub mod Each
+pub mod Opened
+pub mod Substitution
+pub mod Typed
+pub mod Instance
+pub mod ClosedForm
+pub mod Renaming
+pub mod Weakening
+pub mod Examples
+pub mod Identity
+pub mod Valuation

@@ -9,4 +9,5 @@ pub mod Rewriting
 pub mod Calculus
 pub mod Same
 pub mod Truth
+pub mod Laws
 pub mod View

@@ -1,6 +1,6 @@
 -- Valuations of ground atoms, and truth under a valuation, for formulas with no quantifier and no equality.
 use Rattle.std.specs.Prelude.{Bool, true, false, not, ◌&&◌, ◌||◌, ◌≡◌, ◌≢◌, cond, List, [], ◌∷◌, ◌++◌, All, map}
-use Rattle.std.specs.List.{Contains, AllPairs}
+use Rattle.std.specs.List.{AllPairs}
 use Rattle.zm_logic.specs.Tree.{Form, Connective, Problem}
 use Rattle.zm_logic.specs.Parameter.{HasNoParameter}
 use Rattle.zm_logic.specs.Index.{IsClosed}
@@ -18,7 +18,7 @@ IsGroundAtom _ = ⊥
 
 -- a valuation: a finite list of distinct ground atoms with truth values
 pub record IsValuation (v : List Valued) : Type 0 where
-  pub ground : All (λ x. IsGroundAtom x.atom) v
+  pub atoms : All (λ x. IsGroundAtom x.atom) v
   pub distinct : AllPairs (λ x y. x.atom ≢ y.atom) v
 
 -- the truth value of an atom; an atom that isn't listed counts as false
@@ -59,7 +59,7 @@ truth_of v (Form.for_all_types f) = false
 abbrev pub IsTrueUnder : List Valued → Form → Type 0
 IsTrueUnder v f = truth_of (value_of v) f ≡ true
 
--- every premise is true, and the conjecture is false
+-- every premise is true, and the conjecture is false: said of problems with no quantifier and no equality
 pub record Falsifies (v : List Valued) (p : Problem) : Type 0 where
   pub premises : All (λ premise. IsTrueUnder v premise.form) p.premises
   pub conjecture : truth_of (value_of v) p.conjecture ≡ false

@@ -3,9 +3,12 @@
 #![tactic(auto)]
 
 mod copies;
+pub mod laws;
 mod measures;
 mod problem;
 mod sameness;
+#[cfg(test)]
+mod tests;
 mod text;
 mod tree;
 

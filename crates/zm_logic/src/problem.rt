@@ -16,11 +16,13 @@ pub enum Sense {
 /// A declared symbol. Its type variables are bound indices in the types here, the last one 0.
 #[derive(Drop)]
 pub struct Symbol {
+    /// The name in the problem.
     pub name: Text,
     /// The number of its type arguments. A constructor has no others.
     pub types: u32,
     /// The types of its term arguments.
     pub arguments: Tys,
+    /// What it makes of them.
     pub sense: Sense,
 }
 
@@ -43,8 +45,11 @@ pub enum Role {
 /// A formula that is taken as true.
 #[derive(Drop)]
 pub struct Premise {
+    /// Its name in the problem.
     pub name: Text,
+    /// What it is called there.
     pub role: Role,
+    /// What it says.
     pub form: Form,
 }
 

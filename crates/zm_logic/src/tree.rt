@@ -15,7 +15,7 @@ pub type Terms = Items<Term>;
 pub enum Ty {
     /// A bound type variable.
     Bound(u32),
-    /// A type parameter: the type of a number that a quantifier over types is opened with where one of its own is asked for.
+    /// A type parameter: a fixed type of which nothing else is known.
     Param(u64),
     /// A type metavariable.
     Meta(u64),
@@ -28,7 +28,7 @@ pub enum Ty {
 pub enum Term {
     /// A bound variable.
     Bound(u32),
-    /// An epsilon term with its type.
+    /// An epsilon term with its type: a fixed term of which nothing else is known.
     Eps(u64, Ty),
     /// A metavariable with its type.
     Meta(u64, Ty),
@@ -39,7 +39,9 @@ pub enum Term {
 /// A formula.
 #[derive(Drop)]
 pub enum Form {
+    /// What is always true.
     True,
+    /// What is never true.
     False,
     /// A predicate at types and terms.
     Atom(SymId, Tys, Terms),

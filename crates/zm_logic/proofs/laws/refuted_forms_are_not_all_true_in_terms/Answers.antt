@@ -1,0 +1,5 @@
+use Rattle.zm_logic.proofs.Valuation.{not_all_true_in_terms}
+use Rattle.zm_logic.proofs.laws.refuted_forms_are_not_all_true_in_terms.Goals as goal
+
+pub returns : goal.returns
+returns c = not_all_true_in_terms
