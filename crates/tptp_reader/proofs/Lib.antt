@@ -1,1 +1,4 @@
 pub mod Fronts
+pub mod Ascii
+pub mod Natural
+pub mod Sound

@@ -45,6 +45,7 @@ impl<'a> Reader<'a> {
     }
 
     // Takes the sign, if it comes next.
+    #[tactic(auto, unfolding(crate::specs::SlowReader::behind))]
     fn take(&mut self, wanted: Sign) -> bool
         ensures yes { result ≡ true → behind wanted self.old.rest.now ≡ Some self.new.rest.now }
         ensures no { result ≡ false → (behind wanted self.old.rest.now ≡ None) × (self.new.rest.now ≡ self.old.rest.now) }

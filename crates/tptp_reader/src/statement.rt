@@ -58,6 +58,7 @@ fn role_of(word: &str) -> Option<RawRole>
 
 impl<'a> Reader<'a> {
     // Takes a lower.
+    #[tactic(auto, unfolding(crate::specs::SlowReader::word_in))]
     fn word(&mut self) -> Result<&'a str, ReadRefusal>
         ensures reads { Gives (λ w. w.now) result self.new.rest.now (word_in self.old.rest.now) }
         ensures shrinks { length self.new.rest.now ≤ length self.old.rest.now }
@@ -70,6 +71,7 @@ impl<'a> Reader<'a> {
     }
 
     // Takes the word that begins a statement.
+    #[tactic(auto, unfolding(crate::specs::SlowReader::keyword_in))]
     fn keyword(&mut self) -> Result<(), ReadRefusal>
         ensures takes { Leaves result self.new.rest.now (keyword_in self.old.rest.now) }
         ensures shrinks { length self.new.rest.now ≤ length self.old.rest.now }
@@ -81,6 +83,7 @@ impl<'a> Reader<'a> {
     }
 
     // Takes a role.
+    #[tactic(auto, unfolding(crate::specs::SlowReader::role_in))]
     fn role(&mut self) -> Result<RawRole, ReadRefusal>
         ensures reads { Gives (λ r. r) result self.new.rest.now (role_in self.old.rest.now) }
         ensures shrinks { length self.new.rest.now ≤ length self.old.rest.now }
@@ -93,6 +96,7 @@ impl<'a> Reader<'a> {
     }
 
     // Takes what stands before the role, and gives the name.
+    #[tactic(auto, unfolding(crate::specs::SlowReader::heading_in))]
     fn heading(&mut self) -> Result<&'a str, ReadRefusal>
         ensures reads { Gives (λ w. w.now) result self.new.rest.now (heading_in self.old.rest.now) }
         ensures shrinks { length self.new.rest.now ≤ length self.old.rest.now }
@@ -105,6 +109,7 @@ impl<'a> Reader<'a> {
     }
 
     // Takes what stands behind the formula.
+    #[tactic(auto, unfolding(crate::specs::SlowReader::ending_in))]
     fn ending(&mut self) -> Result<(), ReadRefusal>
         ensures takes { Leaves result self.new.rest.now (ending_in self.old.rest.now) }
         ensures shrinks { length self.new.rest.now ≤ length self.old.rest.now }
@@ -114,6 +119,7 @@ impl<'a> Reader<'a> {
     }
 
     // Takes a statement, and gives its name, its role and what is kept of its formula.
+    #[tactic(auto, unfolding(crate::specs::SlowReader::statement_in))]
     fn statement(&mut self) -> Result<(&'a str, RawRole, Built), ReadRefusal>
         ensures reads { Gives statement_kept result self.new.rest.now (statement_in limited self.old.rest.now) }
         ensures shrinks { length self.new.rest.now ≤ length self.old.rest.now }
