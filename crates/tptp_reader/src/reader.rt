@@ -1,4 +1,4 @@
-ghost use Rattle.std.specs.Prelude.{◌≡◌, ◌≤◌, Some, None, true, false, Ok, Err, length, MatchOption, IfOk, OnErr};
+ghost use Rattle.std.specs.Prelude.{◌≡◌, ◌≤◌, ◌<◌, Some, None, true, false, Ok, Err, length, MatchOption, IfOk, OnErr};
 ghost use Rattle.tptp_reader.specs.Tokens.{next, neither};
 ghost use Rattle.tptp_reader.specs.SlowReader.{limited, behind, sign_next, unit_in, signed_in, formula_in, completed_in, chain_from};
 ghost use Rattle.tptp_reader.specs.View.{seen, kept_tree, joint_kept, Gives, Leaves};
@@ -50,6 +50,7 @@ impl<'a> Reader<'a> {
         ensures yes { result ≡ true → behind wanted self.old.rest.now ≡ Some self.new.rest.now }
         ensures no { result ≡ false → (behind wanted self.old.rest.now ≡ None) × (self.new.rest.now ≡ self.old.rest.now) }
         ensures shrinks { length self.new.rest.now ≤ length self.old.rest.now }
+        ensures shorter { result ≡ true → length self.new.rest.now < length self.old.rest.now }
     {
         match next_token(self.rest) {
             Some((Lexeme::Sign(sign), rest)) => {
