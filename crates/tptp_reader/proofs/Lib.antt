@@ -5,3 +5,4 @@ pub mod Sound
 pub mod Complete
 pub mod Steps
 pub mod Whole
+pub mod Places

@@ -5,6 +5,8 @@ use Rattle.std.specs.Str.{bytes_eq}
 use Rattle.std.proofs.lemmas.Slice.Eq.{bytes_eq-Decides}
 use Rattle.std.proofs.lemmas.Bool.Decides.{nat_tests}
 use Rattle.tptp_reader.specs.declared.built.Built as outcomes
+use Rattle.tptp_reader.specs.declared.built.Built.TheVariants.{Whole, TooDeep}
+use Rattle.tptp_reader.specs.declared.form.RawForm.{RawForm}
 use Rattle.tptp_reader.specs.declared.refusal.ReadRefusal.{ReadRefusal}
 use Rattle.tptp_reader.specs.declared.refusal.ReadRefusal.TheVariants.{NotBuilt, Memory}
 use Rattle.tptp_reader.specs.declared.form.RawRole.{RawRole}
@@ -14,7 +16,7 @@ use Rattle.tptp_reader.specs.Raw.{Raw, atom, depth_of, RawStatement, formula}
 use Rattle.tptp_reader.specs.Tokens.{Next, lower, sign, neither, next}
 use Rattle.tptp_reader.specs.Grammar.{IsFormula, IsStatement, spelled, role_of}
 use Rattle.tptp_reader.specs.SlowReader.{then, behind, word_in, lower_at, keyword_in, named, role_in, heading_in, ending_in, statement_in, formula_in, unit_in, chain_from, forms, Kept, whole, too_deep, kept, kept_at, keeps, limited}
-use Rattle.tptp_reader.specs.View.{kept_tree, Gives}
+use Rattle.tptp_reader.specs.View.{form_tree, kept_tree, statement_kept, Gives}
 use Rattle.tptp_reader.proofs.Natural.{carried, kept_formula}
 use Rattle.tptp_reader.proofs.Sound.{found, then_some, same_bytes, behind_sign, formula_sound}
 use Rattle.tptp_reader.proofs.Complete.{sign_taken, lower_taken, ends, formula_complete}
@@ -224,3 +226,23 @@ pub deep_spelled : (bytes more rest word : List ℕ) (role : RawRole) (s : RawSt
 deep_spelled bytes more rest word role s e d =
     let same : ◌≡◌ {A = (List ℕ × RawRole × Kept) × List ℕ} (kept_statement s, rest) ((word, role, too_deep), more) = pair_same (kept_statement s, rest) ((word, role, too_deep), more) (sym (statement_complete bytes rest s d) ∙ e) in
     deep_no_statement s word role (ap (λ (p : (List ℕ × RawRole × Kept) × List ℕ). p.0) same)
+
+-- where a statement is refused, there is none
+pub refused_none : (stop : ReadRefusal) (bytes more rest : List ℕ) (s : RawStatement) → Gives statement_kept (Err stop) more (statement_in limited bytes) → stop ≡ NotBuilt → IsStatement bytes rest s → ⊥
+refused_none NotBuilt bytes more rest s e is d = none_spelled bytes rest s e d
+refused_none Memory bytes more rest s e is d = cc
+
+-- what a call that passes a refusal on was refused by
+pub passed_on : {T : Type 0} (r : Result T ReadRefusal) (x stop : ReadRefusal) → r ≡ Err x → x ≡ stop → r ≡ Err NotBuilt → stop ≡ NotBuilt
+passed_on r x stop e f g = cc
+
+-- A statement of the program that is whole is one of the grammar.
+pub whole_spelled : (bytes rest word name : List ℕ) (role : RawRole) (b : outcomes.Built) (form : RawForm) (n : ℕ) → statement_in limited bytes ≡ Some ((word, role, kept_tree b), rest) → b ≡ Whole form n → name ≡ word → IsStatement bytes rest (formula name role (form_tree form))
+whole_spelled bytes rest word name role b form n e is same =
+    subst (λ (w : List ℕ). IsStatement bytes rest (formula w role (form_tree form))) (sym same)
+    (statement_sound bytes word role (form_tree form) n rest (e ∙ ap (λ (x : outcomes.Built). Some ((word, role, kept_tree x), rest)) is))
+
+-- and where one is too deep there is none
+pub deep_none : (bytes more rest word : List ℕ) (role : RawRole) (b : outcomes.Built) (s : RawStatement) → statement_in limited bytes ≡ Some ((word, role, kept_tree b), more) → b ≡ TooDeep → IsStatement bytes rest s → ⊥
+deep_none bytes more rest word role b s e is d =
+    deep_spelled bytes more rest word role s (e ∙ ap (λ (x : outcomes.Built). Some ((word, role, kept_tree x), more)) is) d
