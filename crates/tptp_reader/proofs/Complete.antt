@@ -74,10 +74,12 @@ record Reaches (unit : List ℕ → RawRead) (s : Sign) (join : Raw → Raw → 
 chain_step : (unit : List ℕ → RawRead) (s : Sign) (join : Raw → Raw → Raw) (n : ℕ) (f g : Raw) (bytes second rest : List ℕ) → next bytes ≡ sign s second → unit second ≡ found g rest → length rest < length second → length bytes ≤ n → (m : ℕ) × (length rest ≤ m) × (chain_in join s unit n f bytes ≡ chain_in join s unit m (join f g) rest)
 chain_step unit s join zero f g bytes second rest is e shorter le = let h = sign_shorter s bytes second is in absurd (omega arith)
 chain_step unit s join (suc n) f g bytes second rest is e shorter le =
-    let h = sign_shorter s bytes second is in
-    (n, omega arith,
-    ap (λ r. go_on r (found f bytes) (λ more. then (unit more) (λ x. chain_in join s unit n (join f x.0) x.1))) (sign_taken s bytes second is)
-    ∙ ap (λ r. then r (λ x. chain_in join s unit n (join f x.0) x.1)) e)
+    let h = sign_shorter s bytes second is in (
+      n,
+      omega arith,
+      ap (λ r. go_on r (found f bytes) (λ more. then (unit more) (λ x. chain_in join s unit n (join f x.0) x.1))) (sign_taken s bytes second is)
+          ∙ ap (λ r. then r (λ x. chain_in join s unit n (join f x.0) x.1)) e,
+    )
 
 and_reaches : (unit : List ℕ → RawRead) (room : ℕ) → Complete unit room → (bytes rest : List ℕ) (f : Raw) → IsConjunction room bytes rest f → Reaches unit And conjunction bytes rest f
 and_reaches unit room c bytes rest h (both {behind = middle} {second = second} {f = f} {g = g} d e u) = record {

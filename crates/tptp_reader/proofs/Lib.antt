@@ -6,3 +6,4 @@ pub mod Complete
 pub mod Steps
 pub mod Whole
 pub mod Places
+pub mod Ends

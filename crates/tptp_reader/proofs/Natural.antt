@@ -36,7 +36,7 @@ chain_carried h join joined c s unit other e (suc n) a bytes =
     (λ rest. then (other rest) (λ x. chain_in joined s other n (joined (h a) x.0) x.1))
     refl
     (λ rest. then_carried h (unit rest) (other rest) (λ x. chain_in join s unit n (join a x.0) x.1) (λ x. chain_in joined s other n (joined (h a) x.0) x.1) (e rest)
-        (λ b more. ap (λ v. chain_in joined s other n v more) (c a b) ∙ chain_carried h join joined c s unit other e n (join a b) more))
+    (λ b more. ap (λ v. chain_in joined s other n v more) (c a b) ∙ chain_carried h join joined c s unit other e n (join a b) more))
 
 completed_carried : {A B : Type 0} (v : Values A) (w : Values B) (h : A → B) → Carries v w h → (unit : List ℕ → Option (A × List ℕ)) (other : List ℕ → Option (B × List ℕ)) → ((bytes : List ℕ) → other bytes ≡ carried h (unit bytes)) → (a : A) (bytes : List ℕ) (t : Next) → completed_at w other (h a) bytes t ≡ carried h (completed_at v unit a bytes t)
 completed_carried v w h c unit other e a bytes (sign Implies rest) =

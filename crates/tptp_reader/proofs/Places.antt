@@ -88,8 +88,8 @@ white_front : (bytes : List ℕ) (at n : ℕ) → at ≤ length bytes → n ≤ 
 white_front bytes at n le short e =
     let size : at + n - at ≡ n = omega arith in
     let front : OnlyWhite (take n (drop at bytes)) = λ k d lt. (
-        let small : k < n = (let l = length-take n (drop at bytes) in omega arith) in
-        ap is_white (get_or-take n (drop at bytes) k d small) ∙ prefix_len_passes is_white (drop at bytes) k d (omega arith)) in
+    let small : k < n = (let l = length-take n (drop at bytes) in omega arith) in
+    ap is_white (get_or-take n (drop at bytes) k d small) ∙ prefix_len_passes is_white (drop at bytes) k d (omega arith)) in
     subst (λ (m : ℕ). OnlyWhite (take m (drop at bytes))) (sym size) front
 
 -- the first token stands where the white space ends

@@ -70,7 +70,7 @@ chain_enough v join s room (suc n) zero a bytes p q = no_turn v join s room n a 
 chain_enough v join s room (suc n) (suc m) a bytes p q =
     same_behind s bytes (behind s bytes) (Some (a, bytes)) (λ rest. then (unit_in v room rest) (λ x. chain_in join s (unit_in v room) n (join a x.0) x.1)) (λ rest. then (unit_in v room rest) (λ x. chain_in join s (unit_in v room) m (join a x.0) x.1)) refl
     (λ rest short. same_after v room (unit_in v room rest) rest (λ x. chain_in join s (unit_in v room) n (join a x.0) x.1) (λ x. chain_in join s (unit_in v room) m (join a x.0) x.1) refl
-        (λ b more shorter. chain_enough v join s room n m (join a b) more (omega arith) (omega arith)))
+    (λ b more shorter. chain_enough v join s room n m (join a b) more (omega arith) (omega arith)))
 
 chain_turn : {A : Type 0} (v : Values A) (join : A → A → A) (s : Sign) (room n : ℕ) (a b : A) (bytes second rest : List ℕ) → behind s bytes ≡ Some second → unit_in v room second ≡ Some (b, rest) → length bytes ≤ n → chain_in join s (unit_in v room) n a bytes ≡ chain_from join s (unit_in v room) (join a b) rest
 chain_turn v join s room zero a b bytes second rest e r le = let h = sign_shorter s bytes second (behind_sign s bytes second e) in absurd (omega arith)

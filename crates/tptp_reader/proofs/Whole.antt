@@ -155,10 +155,10 @@ statement_sound bytes word role f n rest e =
     let is_kept : whole f n ≡ kept 1000 form.form = sym (ap (λ (p : (List ℕ × RawRole × Kept) × List ℕ). p.0.2) same) ∙ form.keeps_it in
     let small = whole_kept f form.form n (depth_of form.form) (nat_le (depth_of form.form) 1000) refl is_kept in
     let statement : IsStatement bytes g.0 (formula a.0.0 b.0.0 form.form) =
-        spelled heading.language heading.opens heading.names heading.separates kind.1 kind.2 (behind_sign Comma b.0.1 c.0 c.1) form.spells small.1 ending.1 ending.2 in
+    spelled heading.language heading.opens heading.names heading.separates kind.1 kind.2 (behind_sign Comma b.0.1 c.0 c.1) form.spells small.1 ending.1 ending.2 in
     let named_so : IsStatement bytes rest (formula a.0.0 b.0.0 form.form) = subst (λ (ts : List ℕ). IsStatement bytes ts (formula a.0.0 b.0.0 form.form)) (ap (λ (p : (List ℕ × RawRole × Kept) × List ℕ). p.1) same) statement in
     let words : formula a.0.0 b.0.0 form.form ≡ formula word role f =
-        ap (λ (p : (List ℕ × RawRole × Kept) × List ℕ). formula p.0.0 p.0.1 form.form) same ∙ ap (formula word role) (sym small.0) in
+    ap (λ (p : (List ℕ × RawRole × Kept) × List ℕ). formula p.0.0 p.0.1 form.form) same ∙ ap (formula word role) (sym small.0) in
     subst (IsStatement bytes rest) words named_so
 
 heading_taken : (bytes opening first word comma second : List ℕ) → next bytes ≡ lower (codes "fof") opening → next opening ≡ sign Open first → next first ≡ lower word comma → next comma ≡ sign Comma second → heading_in bytes ≡ Some (word, second)

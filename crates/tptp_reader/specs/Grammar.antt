@@ -9,6 +9,8 @@ use Rattle.tptp_reader.specs.Raw.{Raw, atom, negation, conjunction, disjunction,
 
 -- IsUnit room bytes rest form: the front spells the form as a unit. No more than room open brackets and pending
 -- negations stand round one place of it.
+--     unit    = "~" unit | "(" formula ")" | lower
+--     formula = unit | unit "=>" unit | unit "&" unit { "&" unit } | unit "|" unit { "|" unit }
 mutual
   pub data IsUnit : ℕ → List ℕ → List ℕ → Raw → Type 0 where
     name : {room : ℕ} {bytes rest word : List ℕ} → next bytes ≡ lower word rest → IsUnit room bytes rest (atom word)
@@ -21,7 +23,7 @@ mutual
     all_of : {room : ℕ} {bytes rest : List ℕ} {f : Raw} → IsConjunction room bytes rest f → IsFormula room bytes rest f
     some_of : {room : ℕ} {bytes rest : List ℕ} {f : Raw} → IsDisjunction room bytes rest f → IsFormula room bytes rest f
 
-  -- a chain of two units or more, which nests to the left
+  -- A chain of two units or more. It nests to the left: p & q & r is (p & q) & r.
   pub data IsConjunction : ℕ → List ℕ → List ℕ → Raw → Type 0 where
     both : {room : ℕ} {bytes behind second rest : List ℕ} {f g : Raw} → IsUnit room bytes behind f → next behind ≡ sign And second → IsUnit room second rest g → IsConjunction room bytes rest (conjunction f g)
     and_more : {room : ℕ} {bytes behind second rest : List ℕ} {f g : Raw} → IsConjunction room bytes behind f → next behind ≡ sign And second → IsUnit room second rest g → IsConjunction room bytes rest (conjunction f g)
@@ -43,21 +45,22 @@ role_of word =
     (cond (bytes_eq word (codes "negated_conjecture")) (Some roles.NegatedConjecture)
     (cond (bytes_eq word (codes "conjecture")) (Some roles.Conjecture) None))))))))
 
--- fof ( name , role , formula ) . with at most 200 open brackets and pending negations, and a depth of at most 1000
+-- statement = "fof" "(" lower "," role "," formula ")" "." with at most 200 open brackets and pending negations round
+-- one place, and a formula of a depth of at most 1000.
 pub data IsStatement : List ℕ → List ℕ → RawStatement → Type 0 where
   spelled : {bytes opening first word comma second kind separator body close stop rest : List ℕ} {role : RawRole} {f : Raw} →
-    next bytes ≡ lower (codes "fof") opening →
-    next opening ≡ sign Open first →
-    next first ≡ lower word comma →
-    next comma ≡ sign Comma second →
-    next second ≡ lower kind separator →
-    role_of kind ≡ Some role →
-    next separator ≡ sign Comma body →
-    IsFormula 200 body close f →
-    depth_of f ≤ 1000 →
-    next close ≡ sign Close stop →
-    next stop ≡ sign Stop rest →
-    IsStatement bytes rest (formula word role f)
+      next bytes ≡ lower (codes "fof") opening →
+      next opening ≡ sign Open first →
+      next first ≡ lower word comma →
+      next comma ≡ sign Comma second →
+      next second ≡ lower kind separator →
+      role_of kind ≡ Some role →
+      next separator ≡ sign Comma body →
+      IsFormula 200 body close f →
+      depth_of f ≤ 1000 →
+      next close ≡ sign Close stop →
+      next stop ≡ sign Stop rest →
+      IsStatement bytes rest (formula word role f)
 
 -- A whole text: one statement after another, and then white space alone.
 pub data IsText : List ℕ → List RawStatement → Type 0 where

@@ -62,7 +62,12 @@ fn joint_form(joint: Joint, first: Boxed<RawForm>, second: Boxed<RawForm>) -> Ra
 }
 
 /// The two joined.
-pub fn joined(alloc: Global, joint: Joint, first: Built, second: Built) -> Result<Built, ReadRefusal>
+pub fn joined(
+    alloc: Global,
+    joint: Joint,
+    first: Built,
+    second: Built,
+) -> Result<Built, ReadRefusal>
     ensures ok { IfOk result (λ b. kept_tree b ≡ joint_kept joint (kept_tree first) (kept_tree second)) }
     ensures err { OnErr result (result ≡ Err ReadRefusal.Memory) }
 {

@@ -2,7 +2,7 @@ use crate::text::Text;
 use sqlite_items::Boxed;
 
 /// A propositional formula as it is written. Chains nest to the left.
-#[derive(Drop)]
+#[derive(Debug, Drop)]
 pub enum RawForm {
     /// The atom of this name.
     Plain(Text),

@@ -148,7 +148,13 @@ impl<'a> Reader<'a> {
 
     // Goes on with a chain of one connective, as long as it goes.
     #[cycle(reading)]
-    fn chain(&mut self, room: u32, connective: Sign, joint: Joint, first: Built) -> Result<Built, ReadRefusal>
+    fn chain(
+        &mut self,
+        room: u32,
+        connective: Sign,
+        joint: Joint,
+        first: Built,
+    ) -> Result<Built, ReadRefusal>
         ensures reads { Gives kept_tree result self.new.rest.now
             (chain_from (joint_kept joint) connective (unit_in limited room) (kept_tree first) self.old.rest.now) }
         ensures shrinks { length self.new.rest.now ≤ length self.old.rest.now }

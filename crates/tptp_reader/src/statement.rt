@@ -1,4 +1,4 @@
-ghost use Rattle.std.specs.Prelude.{◌≡◌, ◌≤◌, ◌<◌, ℕ, List, drop, length, IfOk};
+ghost use Rattle.std.specs.Prelude.{◌≡◌, ◌≤◌, ◌<◌, ◌↔◌, ℕ, List, drop, length, IfOk};
 ghost use Rattle.tptp_reader.specs.Tokens.{OnlyWhite};
 ghost use Rattle.tptp_reader.specs.Raw.{RawStatement};
 ghost use Rattle.tptp_reader.specs.Grammar.{IsStatement, IsText, role_of};
@@ -15,14 +15,14 @@ use crate::white::skip_white;
 use std::alloc::Global;
 
 /// A statement and the place of its first token.
-#[derive(Drop)]
+#[derive(Debug, Drop)]
 pub struct Statement {
     pub at: usize,
     pub body: Body,
 }
 
 /// What a statement says.
-#[derive(Drop)]
+#[derive(Debug, Drop)]
 pub enum Body {
     Formula {
         name: Text,
@@ -32,7 +32,7 @@ pub enum Body {
 }
 
 /// What stands next in a text: a statement, with the place behind it, or nothing more but white space.
-#[derive(Drop)]
+#[derive(Debug, Drop)]
 pub enum Read {
     Statement(Statement, usize),
     End,
@@ -162,7 +162,8 @@ pub fn read_statement(alloc: Global, bytes: &[u8], at: usize) -> Result<Read, Re
     ensures place { IfStatement result (λ s after. IsFirstToken bytes.now at s.at) }
     ensures order { IfStatement result (λ s after. s.at < after) }
     ensures within { IfStatement result (λ s after. after ≤ length bytes.now) }
-    ensures end { result ≡ Ok Read.End → OnlyWhite (drop at bytes.now) }
+    // The end is told exactly where white space alone follows, memory or not.
+    ensures end { (result ≡ Ok Read.End) ↔ OnlyWhite (drop at bytes.now) }
     // Neither is refused.
     ensures not_statement { result ≡ Err ReadRefusal.NotBuilt → (rest : List ℕ) (s : RawStatement) → IsStatement (drop at bytes.now) rest s → ⊥ }
     ensures not_end { result ≡ Err ReadRefusal.NotBuilt → OnlyWhite (drop at bytes.now) → ⊥ }
