@@ -1,14 +1,13 @@
 -- The bytes of a word are ASCII, and so a text.
-use Rattle.std.proofs.Common.{◌≡◌, ℕ, zero, suc, ◌+◌, ◌<◌, ◌≤◌, Bool, true, false, cond, List, [], ◌∷◌, length, take, drop, get_or, refl, sym, ◌∙◌, ap, subst, arith}
-use Rattle.std.specs.Prelude.{nat_le, ◌||◌, ◌&&◌, ◌==◌}
-use Rattle.std.specs.List.{All, AllPass, prefix_len}
-use Rattle.std.specs.Str.{IsUtf8, IsAscii}
+use Rattle.std.proofs.Common.{◌≡◌, ℕ, zero, suc, ◌+◌, ◌<◌, ◌≤◌, true, List, [], ◌∷◌, length, take, drop, get_or, ◌∙◌, ap, arith}
+use Rattle.std.specs.List.{AllPass, prefix_len}
+use Rattle.std.specs.Str.{IsUtf8}
 use Rattle.std.proofs.lemmas.Bool.Decides.{nat_tests}
 use Rattle.std.proofs.lemmas.Str.{IsUtf8-from_ascii}
 use Rattle.std.proofs.lemmas.Str.Ascii.{IsAscii-from_all}
 use Rattle.std.proofs.lemmas.List.Sums.{prefix_len_passes}
 use Rattle.std.proofs.lemmas.List.{get_or-take, length-take}
-use Rattle.tptp_reader.specs.Tokens.{is_small, is_word, between}
+use Rattle.tptp_reader.specs.Tokens.{is_small, is_word}
 
 word_ascii : (b : ℕ) → is_word b ≡ true → b < 128
 word_ascii b h = grind (arith, nat_tests)

@@ -1,11 +1,11 @@
 -- Nothing in the grammar is refused by the slow reader.
-use Rattle.std.proofs.Common.{◌≡◌, ℕ, zero, suc, ◌<◌, ◌≤◌, List, [], ◌∷◌, length, Option, Some, None, Bool, true, false, refl, sym, ◌∙◌, ap, subst, arith}
+use Rattle.std.proofs.Common.{◌≡◌, ℕ, zero, suc, ◌<◌, ◌≤◌, List, length, Some, None, Bool, true, false, refl, ◌∙◌, ap, arith}
 use Rattle.tptp_reader.specs.declared.token.Sign.{Sign}
 use Rattle.tptp_reader.specs.declared.token.Sign.TheVariants.{Open, Close, Comma, Stop, Not, And, Or, Implies}
 use Rattle.tptp_reader.specs.Tokens.{Next, lower, sign, neither, next}
 use Rattle.tptp_reader.specs.Raw.{Raw, negation, conjunction, disjunction, implication}
 use Rattle.tptp_reader.specs.Grammar.{IsUnit, name, negated, bracketed, IsFormula, single, implied, all_of, some_of, IsConjunction, both, and_more, IsDisjunction, either, or_more}
-use Rattle.tptp_reader.specs.SlowReader.{Values, then, sign_behind, behind, word_in, lower_at, go_on, chain_in, completed_at, completed_in, closed_in, formula_by_unit, signed_in, full_at, unit_at, unit_in, formula_in, forms}
+use Rattle.tptp_reader.specs.SlowReader.{then, sign_behind, behind, word_in, lower_at, go_on, chain_in, completed_at, completed_in, closed_in, formula_by_unit, full_at, unit_at, unit_in, formula_in, forms}
 use Rattle.tptp_reader.proofs.Fronts.{unit_shorter, sign_shorter}
 use Rattle.tptp_reader.proofs.Sound.{RawRead, found}
 

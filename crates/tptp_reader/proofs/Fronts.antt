@@ -1,14 +1,14 @@
 -- What stands behind a token is an end of the bytes, and a shorter one.
-use Rattle.std.proofs.Common.{◌≡◌, ℕ, zero, suc, ◌+◌, ◌-◌, ◌<◌, ◌≤◌, Bool, true, false, cond, List, [], ◌∷◌, length, take, drop, length-drop, Option, Some, None, refl, sym, ◌∙◌, ap, subst, arith}
+use Rattle.std.proofs.Common.{◌≡◌, ℕ, suc, ◌+◌, ◌-◌, ◌<◌, ◌≤◌, Bool, true, false, cond, List, [], ◌∷◌, length, drop, length-drop, Option, Some, None, refl, ◌∙◌, ap, subst, arith}
 use Rattle.std.specs.Prelude.{◌==◌}
 use Rattle.std.specs.List.{prefix_len}
 use Rattle.std.proofs.lemmas.List.{drop-drop}
 use Rattle.std.proofs.lemmas.List.Sums.{prefix_len-le-length}
 use Rattle.tptp_reader.specs.declared.token.Sign.{Sign}
-use Rattle.tptp_reader.specs.declared.token.Sign.TheVariants.{Open, Close, Comma, Stop, Not, And, Or, Implies}
-use Rattle.tptp_reader.specs.Raw.{Raw, RawStatement}
+use Rattle.tptp_reader.specs.declared.token.Sign.TheVariants.{Open, Close, Not, And, Or, Implies}
+use Rattle.tptp_reader.specs.Raw.{Raw}
 use Rattle.tptp_reader.specs.Tokens.{Next, lower, sign, neither, is_small, is_word, is_white, single_sign, sign_before, sign_from, arrow_from, lower_from, token_at, behind_white, next}
-use Rattle.tptp_reader.specs.Grammar.{IsUnit, name, negated, bracketed, IsFormula, single, implied, all_of, some_of, IsConjunction, both, and_more, IsDisjunction, either, or_more, IsStatement, spelled}
+use Rattle.tptp_reader.specs.Grammar.{IsUnit, name, negated, bracketed, IsFormula, single, implied, all_of, some_of, IsConjunction, both, and_more, IsDisjunction, either, or_more}
 
 -- The rest is a shorter end of the bytes.
 pub record IsBehind (rest bytes : List ℕ) : Type 0 where

@@ -1,15 +1,14 @@
 -- White space before the first token, and the places in a text.
-use Rattle.std.proofs.Common.{◌≡◌, ℕ, zero, suc, ◌+◌, ◌-◌, ◌<◌, ◌≤◌, ◌⊎◌, inl, inr, Bool, true, false, List, [], ◌∷◌, length, take, drop, get_or, length-drop, refl, sym, ◌∙◌, ap, subst, arith}
-use Rattle.std.specs.Prelude.{◌==◌, codes, slice_range, slice_index}
+use Rattle.std.proofs.Common.{◌≡◌, ℕ, ◌+◌, ◌-◌, ◌<◌, ◌≤◌, ◌⊎◌, inl, inr, Bool, true, false, List, [], ◌∷◌, length, take, drop, length-drop, refl, sym, ◌∙◌, ap, subst, arith}
+use Rattle.std.specs.Prelude.{◌==◌, codes, slice_range}
 use Rattle.std.proofs.Math.Dec.{eqb-suc-zero}
-use Rattle.std.specs.List.{All, AllPass, prefix_len}
+use Rattle.std.specs.List.{prefix_len}
 use Rattle.std.proofs.lemmas.Bool.{cases_lt}
 use Rattle.std.proofs.lemmas.List.{drop-drop, drop_all, get_or-drop, get_or-take, length-take}
-use Rattle.std.proofs.lemmas.List.Sums.{prefix_len_passes, prefix_len_stops, prefix_len-le-length}
-use Rattle.tptp_reader.specs.declared.token.Sign.{Sign}
+use Rattle.std.proofs.lemmas.List.Sums.{prefix_len_passes, prefix_len_stops}
 use Rattle.tptp_reader.specs.declared.token.Sign.TheVariants.{Open, Close, Comma, Stop}
 use Rattle.tptp_reader.specs.Raw.{RawStatement}
-use Rattle.tptp_reader.specs.Tokens.{Next, lower, sign, neither, next, token_at, is_white, OnlyWhite, behind_white}
+use Rattle.tptp_reader.specs.Tokens.{Next, lower, neither, next, token_at, is_white, OnlyWhite, behind_white}
 use Rattle.tptp_reader.specs.Grammar.{IsStatement, spelled, IsText, at_end, one_more}
 use Rattle.tptp_reader.specs.View.{IsFirstToken}
 use Rattle.tptp_reader.proofs.Fronts.{IsBehind, behind_behind, behind_shorter, dropped_behind, Behind, next_behind_white, lower_end, sign_end, formula_end}

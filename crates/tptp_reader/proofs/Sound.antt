@@ -1,5 +1,5 @@
 -- What the slow reader reads is in the grammar.
-use Rattle.std.proofs.Common.{◌≡◌, ℕ, zero, suc, ◌⊎◌, inl, inr, List, [], ◌∷◌, length, Option, Some, None, refl, ap, subst}
+use Rattle.std.proofs.Common.{◌≡◌, ℕ, zero, suc, ◌⊎◌, inl, inr, List, length, Option, Some, None, refl, ap, subst}
 use Rattle.tptp_reader.specs.declared.token.Sign.{Sign}
 use Rattle.tptp_reader.specs.declared.token.Sign.TheVariants.{Open, Close, Comma, Stop, Not, And, Or, Implies}
 use Rattle.tptp_reader.specs.Tokens.{Next, lower, sign, neither, next}

@@ -1,7 +1,7 @@
 -- One step of the slow reader, as the code takes it.
-use Rattle.std.proofs.Common.{◌≡◌, ℕ, zero, suc, ◌-◌, ◌<◌, ◌≤◌, List, [], ◌∷◌, length, Option, Some, None, refl, sym, ◌∙◌, ap, subst, arith}
+use Rattle.std.proofs.Common.{◌≡◌, ℕ, zero, suc, ◌-◌, ◌<◌, ◌≤◌, List, length, Option, Some, None, refl, sym, ◌∙◌, ap, subst, arith}
 use Rattle.tptp_reader.specs.declared.token.Sign.{Sign}
-use Rattle.tptp_reader.specs.Tokens.{Next, lower, sign, neither, next}
+use Rattle.tptp_reader.specs.Tokens.{lower, sign, neither, next}
 use Rattle.tptp_reader.specs.Raw.{Raw}
 use Rattle.tptp_reader.specs.SlowReader.{Values, then, behind, go_on, chain_in, chain_from, signed_in, full_at, unit_at, unit_in, forms, value_of}
 use Rattle.tptp_reader.proofs.Fronts.{unit_shorter, sign_shorter}

@@ -1,5 +1,5 @@
 -- Whole statements: the slow reader against the grammar, and what is kept of a formula.
-use Rattle.std.proofs.Common.{◌≡◌, ℕ, zero, suc, ◌≤◌, cond, Bool, true, false, List, [], ◌∷◌, length, Option, Some, None, Result, Ok, Err, refl, sym, ◌∙◌, ap, subst, arith}
+use Rattle.std.proofs.Common.{◌≡◌, ℕ, ◌≤◌, cond, Bool, true, false, List, [], Option, Some, None, Result, Err, refl, sym, ◌∙◌, ap, subst, arith}
 use Rattle.std.specs.Prelude.{nat_le, codes}
 use Rattle.std.specs.Str.{bytes_eq}
 use Rattle.std.proofs.lemmas.Slice.Eq.{bytes_eq-Decides}
@@ -15,10 +15,10 @@ use Rattle.tptp_reader.specs.declared.token.Sign.TheVariants.{Open, Close, Comma
 use Rattle.tptp_reader.specs.Raw.{Raw, atom, depth_of, RawStatement, formula}
 use Rattle.tptp_reader.specs.Tokens.{Next, lower, sign, neither, next}
 use Rattle.tptp_reader.specs.Grammar.{IsFormula, IsStatement, spelled, role_of}
-use Rattle.tptp_reader.specs.SlowReader.{then, behind, word_in, lower_at, keyword_in, named, role_in, heading_in, ending_in, statement_in, formula_in, unit_in, chain_from, forms, Kept, whole, too_deep, kept, kept_at, keeps, limited}
+use Rattle.tptp_reader.specs.SlowReader.{then, behind, word_in, lower_at, keyword_in, named, role_in, heading_in, ending_in, statement_in, formula_in, unit_in, chain_from, forms, Kept, whole, too_deep, kept, limited}
 use Rattle.tptp_reader.specs.View.{form_tree, kept_tree, statement_kept, Gives}
 use Rattle.tptp_reader.proofs.Natural.{carried, kept_formula}
-use Rattle.tptp_reader.proofs.Sound.{found, then_some, same_bytes, behind_sign, formula_sound}
+use Rattle.tptp_reader.proofs.Sound.{then_some, same_bytes, behind_sign, formula_sound}
 use Rattle.tptp_reader.proofs.Complete.{sign_taken, lower_taken, ends, formula_complete}
 use Rattle.tptp_reader.proofs.Steps.{chain_breaks}
 

@@ -4,7 +4,7 @@ use Rattle.std.specs.Str.{bytes_eq}
 use Rattle.tptp_reader.specs.declared.form.RawRole.{RawRole}
 use Rattle.tptp_reader.specs.declared.form.RawRole.TheVariants as roles
 use Rattle.tptp_reader.specs.declared.token.Sign.TheVariants.{Open, Close, Comma, Stop, Not, And, Or, Implies}
-use Rattle.tptp_reader.specs.Tokens.{Next, lower, sign, next, OnlyWhite}
+use Rattle.tptp_reader.specs.Tokens.{lower, sign, next, OnlyWhite}
 use Rattle.tptp_reader.specs.Raw.{Raw, atom, negation, conjunction, disjunction, implication, depth_of, RawStatement, formula}
 
 -- IsUnit room bytes rest form: the front spells the form as a unit. No more than room open brackets and pending

@@ -1,6 +1,6 @@
 -- A slow reader of the same bytes, as functions on lists. What it makes of a formula is left open: the formula
 -- itself, or as much of it as is kept. The program's own reader is compared with it, and it with the grammar.
-use Rattle.std.specs.Prelude.{ℕ, zero, suc, ◌+◌, max, nat_le, cond, List, [], ◌∷◌, length, Option, Some, None, codes}
+use Rattle.std.specs.Prelude.{ℕ, zero, suc, ◌+◌, max, nat_le, cond, List, length, Option, Some, None, codes}
 use Rattle.std.specs.Str.{bytes_eq}
 use Rattle.tptp_reader.specs.declared.token.Sign.{Sign}
 use Rattle.tptp_reader.specs.declared.token.Sign.TheVariants.{Open, Close, Comma, Stop, Not, And, Or, Implies}

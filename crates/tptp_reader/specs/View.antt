@@ -1,5 +1,5 @@
 -- What the program's values stand for, and what its functions give.
-use Rattle.std.specs.Prelude.{◌≡◌, ◌<◌, ◌≤◌, ℕ, false, List, drop, length, slice_index, slice_range, Option, Some, None, Result, Ok, Err}
+use Rattle.std.specs.Prelude.{◌≡◌, ◌<◌, ◌≤◌, ℕ, false, List, length, slice_index, slice_range, Option, Some, None, Result, Ok, Err}
 use Rattle.std.specs.Borrow.{Bor}
 use Rattle.tptp_reader.specs.declared.token.Lexeme.{Lexeme}
 use Rattle.tptp_reader.specs.declared.token.Lexeme.TheVariants as lexemes
@@ -17,7 +17,7 @@ use Rattle.tptp_reader.specs.declared.built.Built as outcomes
 use Rattle.tptp_reader.specs.declared.built.Built.TheVariants as variants
 use Rattle.tptp_reader.specs.declared.built.Joint.{Joint}
 use Rattle.tptp_reader.specs.declared.built.Joint.TheVariants as joints
-use Rattle.tptp_reader.specs.Tokens.{Next, lower, sign, neither, is_white, OnlyWhite}
+use Rattle.tptp_reader.specs.Tokens.{Next, lower, sign, is_white, OnlyWhite}
 use Rattle.tptp_reader.specs.Raw.{Raw, atom, negation, conjunction, disjunction, implication, RawStatement, formula}
 use Rattle.tptp_reader.specs.SlowReader.{Kept, whole, too_deep, kept_two}
 
