@@ -164,7 +164,7 @@ pub fn read_statement(alloc: Global, bytes: &[u8], at: usize) -> Result<Read, Re
     ensures within { IfStatement result (λ s after. after ≤ length bytes.now) }
     // The end is told exactly where white space alone follows, memory or not.
     ensures end { (result ≡ Ok Read.End) ↔ OnlyWhite (drop at bytes.now) }
-    // Neither is refused.
+    // A refusal comes only where neither stands there.
     ensures not_statement { result ≡ Err ReadRefusal.NotBuilt → (rest : List ℕ) (s : RawStatement) → IsStatement (drop at bytes.now) rest s → ⊥ }
     ensures not_end { result ≡ Err ReadRefusal.NotBuilt → OnlyWhite (drop at bytes.now) → ⊥ }
 {
