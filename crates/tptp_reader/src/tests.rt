@@ -205,7 +205,8 @@ fn is_read(
     match read_statement(alloc, text.as_bytes(), 0) {
         Ok(Read::Statement(_, after)) => Ok(after == text.len()),
         Ok(Read::End) => Ok(false),
-        Err(_) => Ok(false),
+        Err(ReadRefusal::NotBuilt) => Ok(false),
+        Err(ReadRefusal::Memory) => Err("no memory")?,
     }
 }
 
