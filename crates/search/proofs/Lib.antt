@@ -1,0 +1,12 @@
+pub mod Sames
+pub mod Lists
+pub mod Loops
+pub mod Sources
+pub mod Offered
+pub mod Derived
+pub mod Unclosed
+pub mod Saturated
+pub mod Falsified
+pub mod Places
+pub mod Growing
+pub mod Found

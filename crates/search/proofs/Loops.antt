@@ -1,0 +1,26 @@
+-- One step of a loop over a list.
+use Rattle.std.proofs.Common.{◌≡◌, ℕ, suc, ◌+◌, ◌<◌, ◌≤◌, refl, ap, sym, ◌∙◌, List, [], ◌∷◌, ◌++◌, arith, map, take, drop, length, get_or, add-one, drop-cons, append_assoc, append-nil}
+use Rattle.std.proofs.lemmas.List.{take_more, map-append}
+use Rattle.zm_logic.specs.Tree.{Form}
+use Rattle.zm_logic.specs.declared.tree.Form.{Form as Code}
+use Rattle.zm_logic.specs.View.{form_tree}
+use Rattle.search.specs.Branch.{add, extend}
+
+pub front : {A B : Type 0} (f : A → B) (xs : List A) (i : ℕ) (x : A) → i < length xs → x ≡ get_or xs i x → map f (take (i + 1) xs) ≡ map f (take i xs) ++ f x ∷ []
+front f xs i x l e = ap (map f) (take_more xs i x l) ∙ (map-append f (take i xs) (get_or xs i x ∷ []) ∙ rw (← e) refl)
+
+pub extend-push : (b fs : List Form) (f : Form) → extend b (fs ++ f ∷ []) ≡ add (extend b fs) f
+extend-push b [] f = refl
+extend-push b (g ∷ fs) f = extend-push (add b g) fs f
+
+-- the branch with one more formula
+pub more_extended : (b : List Form) (xs : List Code) (i : ℕ) (x : Code) → i < length xs → x ≡ get_or xs i x
+    → extend b (map form_tree (take (i + 1) xs)) ≡ add (extend b (map form_tree (take i xs))) (form_tree x)
+more_extended b xs i x l e = ap (extend b) (front form_tree xs i x l e) ∙ extend-push b (map form_tree (take i xs)) (form_tree x)
+
+pub extend_append : (b fs gs : List Form) → extend (extend b fs) gs ≡ extend b (fs ++ gs)
+extend_append b [] gs = refl
+extend_append b (f ∷ fs) gs = extend_append (add b f) fs gs
+
+pub rest : {A B : Type 0} (f : A → B) (xs : List A) (i : ℕ) (x : A) → i < length xs → x ≡ get_or xs i x → map f (drop i xs) ≡ f x ∷ map f (drop (i + 1) xs)
+rest f xs i x l e = ap (map f) (drop-cons xs i x l) ∙ rw (add-one, ← e) refl
