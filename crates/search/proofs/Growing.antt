@@ -9,9 +9,10 @@ use Rattle.search.specs.RawOffers.{Kind, Act}
 use Rattle.search.specs.Offers.{make_child, make_children}
 use Rattle.search.specs.Tableau.{Node, Children, Leaf, IsOfferAt, IsLawful, AreLawful, given, is_skipped, count, count_all, picks, picks_all, height, height_all, is_finished, are_finished, is_open, are_open, current, current_of}
 use Rattle.search.specs.Stopping.{Cause}
-use Rattle.search.specs.View.{ChildTree, children_of, bringing, children_tree, child_tree, node_tree, forms_trees, cause}
+use Rattle.search.specs.View.{ChildTree, children_of, bringing, children_tree, child_tree, node_tree, forms_trees, cause, step_of_node, step_of_child}
 use Rattle.search.specs.declared.node.Node.{Node as NodeCode}
 use Rattle.search.specs.declared.node.Child.{Child}
+use Rattle.search.specs.declared.node.Node.TheFolds.{fold-roll-Child}
 use Rattle.search.specs.declared.node.Why.{Why}
 use Rattle.zm_logic.specs.declared.tree.Form.{Form as Code}
 use Rattle.zm_logic.specs.View.{form_tree}
@@ -155,6 +156,10 @@ pub trees_step : (all all' : List Child) (x : Child) (f : List Code) (n : NodeCo
     → child_tree x ≡ bringing (map form_tree f) (node_tree n) → all' ≡ all ++ x ∷ []
     → map child_tree all' ≡ map child_tree all ++ bringing (map form_tree f) (node_tree n) ∷ []
 trees_step all all' x f n e p = ap (map child_tree) p ∙ (map-append child_tree all (x ∷ []) ∙ ap (λ c. map child_tree all ++ c ∷ []) e)
+
+-- a child with its formulas copied twice
+pub child_is : (raw normal f : List Code) (n : NodeCode) → raw ≡ f → normal ≡ f → child_tree (record { raw = raw; normal = normal; node = n }) ≡ bringing (map form_tree f) (node_tree n)
+child_is raw normal f n e g = rw (e, g) (fold-roll-Child Node ChildTree step_of_node step_of_child (record { raw = f; normal = f; node = n }))
 
 pub forms_push : (xs : List (List Code)) (f : List Code) → forms_trees (xs ++ f ∷ []) ≡ forms_trees xs ++ map form_tree f ∷ []
 forms_push [] f = refl

@@ -12,6 +12,11 @@ abbrev pub extend : List Form → List Form → List Form
 extend branch [] = branch
 extend branch (f ∷ fs) = extend (add branch f) fs
 
+-- the formula, or its negation
+abbrev pub signed : Bool → Form → Form
+signed true f = f
+signed false f = Form.negation f
+
 -- What closes a branch: one formula, or an unnegated formula and a negated one. Swapped are s = t and ~(t = s).
 pub record Closing : Type 0 where
   pub first : Form

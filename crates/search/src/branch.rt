@@ -1,13 +1,9 @@
-ghost use Rattle.std.specs.Prelude.{◌≡◌, ◌≤◌, IfOk, OnOk, map, take, drop, length};
-ghost use Rattle.std.specs.Option.{option_map};
-ghost use Rattle.zm_logic.specs.Tree as tree;
+ghost use Rattle.std.specs.Prelude.{◌≡◌, IfOk, OnOk, map, take, length, [], ◌∷◌};
 ghost use Rattle.zm_logic.specs.View.{form_tree, problem_tree};
 ghost use Rattle.zm_logic.specs.Same as same;
 ghost use Rattle.search.specs.Branch as spec;
 ghost use Rattle.search.specs.Tableau.{root};
-ghost use Rattle.search.specs.View.{closing_tree};
 
-use crate::node::ClosingPair;
 use sqlite_items::{Boxed, Items};
 use std::alloc::{AllocError, Global};
 use zm_logic::{Form, Problem};
@@ -35,11 +31,24 @@ pub fn copied(alloc: Global, forms: &[Form]) -> Result<Items<Form>, AllocError>
     Ok(all)
 }
 
-/// The negation of a formula.
-pub fn negation(alloc: Global, form: &Form) -> Result<Form, AllocError>
-    ensures { IfOk result (λ f. form_tree f ≡ tree.Form.negation (form_tree form.now)) }
+/// The formula, or its negation where `holds` is false.
+pub fn signed(alloc: Global, holds: bool, form: &Form) -> Result<Form, AllocError>
+    ensures { IfOk result (λ f. form_tree f ≡ spec.signed holds (form_tree form.now)) }
 {
-    Ok(Form::Not(Boxed::new(alloc, form.copy(alloc)?)?))
+    if holds {
+        form.copy(alloc)
+    } else {
+        Ok(Form::Not(Boxed::new(alloc, form.copy(alloc)?)?))
+    }
+}
+
+/// One formula, or its negation.
+pub fn one(alloc: Global, holds: bool, form: &Form) -> Result<Items<Form>, AllocError>
+    ensures { IfOk result (λ fs. map form_tree fs ≡ spec.signed holds (form_tree form.now) ∷ []) }
+{
+    let mut all = Items::new(alloc);
+    all.push(signed(alloc, holds, form)?)?;
+    Ok(all)
 }
 
 /// Puts a formula on a branch, unless it stands there.
@@ -54,7 +63,6 @@ pub fn add(alloc: Global, branch: &mut Items<Form>, form: &Form) -> Result<(), A
 }
 
 /// Puts formulas on a branch, but for those that stand there.
-#[tactic(auto, using(crate::proofs::Loops::more_extended))]
 pub fn extend(alloc: Global, branch: &mut Items<Form>, forms: &[Form]) -> Result<(), AllocError>
     ensures added { OnOk result (map form_tree branch.new ≡ spec.extend (map form_tree branch.old) (map form_tree forms.now)) }
     ensures kept { OnOk result (take (length branch.old) branch.new ≡ branch.old) }
@@ -65,9 +73,8 @@ pub fn extend(alloc: Global, branch: &mut Items<Form>, forms: &[Form]) -> Result
     Ok(())
 }
 
-/// Takes the newest formulas off a branch, so that this many are left.
+/// Takes the newest formulas off a branch, so that at most this many are left.
 pub fn cut(branch: &mut Items<Form>, len: usize)
-    requires { len ≤ length branch.old }
     ensures { branch.new ≡ take len branch.old }
 {
     while branch.len() > len {
@@ -83,7 +90,7 @@ pub fn root_branch(alloc: Global, problem: &Problem) -> Result<Items<Form>, Allo
     for premise in problem.premises.as_slice() {
         add(alloc, &mut branch, &premise.form)?;
     }
-    let goal = negation(alloc, &problem.conjecture)?;
-    add(alloc, &mut branch, &goal)?;
+    let goal = one(alloc, false, &problem.conjecture)?;
+    extend(alloc, &mut branch, goal.as_slice())?;
     Ok(branch)
 }

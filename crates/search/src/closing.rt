@@ -144,9 +144,8 @@ fn closing_with(
     ensures { IfOk result (λ r. option_map closing_tree r ≡ spec.closing_with (map form_tree earlier.now) (form_tree later.now)) }
 {
     for g in earlier {
-        let found = closing_of(alloc, g, later)?;
-        if found.is_some() {
-            return Ok(found);
+        if let Some(pair) = closing_of(alloc, g, later)? {
+            return Ok(Some(pair));
         }
     }
     Ok(None)
@@ -179,9 +178,8 @@ pub fn closing_pair(
     ensures { IfOk result (λ r. option_map closing_tree r ≡ spec.closing_from (map form_tree (take from branch.now)) (map form_tree (drop from branch.now))) }
 {
     for j in from..branch.len() {
-        let found = closing_at(alloc, &branch[..j], &branch[j])?;
-        if found.is_some() {
-            return Ok(found);
+        if let Some(pair) = closing_at(alloc, &branch[..j], &branch[j])? {
+            return Ok(Some(pair));
         }
     }
     Ok(None)

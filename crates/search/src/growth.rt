@@ -1,6 +1,6 @@
 ghost use Rattle.std.specs.Prelude.{◌≡◌, ◌≤◌, ◌<◌, ◌+◌, ◌-◌, ◌^◌, IfOk, OnOk, map, take, drop, length, None, Some};
 ghost use Rattle.zm_logic.specs.View.{form_tree};
-ghost use Rattle.search.specs.View.{node_tree, children_tree, child_tree, forms_trees, cause, kind_tree, act_tree, bringing};
+ghost use Rattle.search.specs.View.{node_tree, children_tree, forms_trees, cause, kind_tree, act_tree};
 ghost use Rattle.search.specs.Branch.{closing, closing_from, extend as spec_extend};
 ghost use Rattle.search.specs.Offers.{make_children};
 ghost use Rattle.search.specs.Tableau.{IsOfferAt, given};
@@ -10,7 +10,7 @@ use crate::branch::{copied, cut, extend};
 use crate::closing::closing_pair;
 use crate::node::{Child, Node, Why};
 use crate::offer::{Offer, first_offer};
-use sqlite_items::Items;
+use sqlite_items::{Boxed, Items};
 use std::alloc::{AllocError, Global};
 use zm_logic::Form;
 
@@ -80,7 +80,7 @@ pub fn grow(
 fn step(
     alloc: Global,
     branch: &mut Items<Form>,
-    offer: Offer,
+    offer: Boxed<Offer>,
     above: u32,
     left: &mut u32,
 ) -> Result<Grown, AllocError>
@@ -91,12 +91,9 @@ fn step(
     ensures grown { IfOk result (λ g. IsGrown (map form_tree branch.old) above (left.old + 1) left.new (node_tree g.node) (cause g.why)) }
     ensures kept { OnOk result (branch.new ≡ branch.old) }
 {
-    let Offer {
-        kind,
-        act,
-        children,
-    } = offer;
-    let grown = grow_all(alloc, branch, children.as_slice(), above + 1, left)?;
+    let children = offer.get().children.as_slice();
+    let grown = grow_all(alloc, branch, children, above + 1, left)?;
+    let Offer { kind, act, .. } = offer.into_inner();
     Ok(Grown {
         node: Node::Step {
             pick: 0,
@@ -126,20 +123,13 @@ fn grow_all(
     let mut all = Items::new(alloc);
     let mut why = None;
     for forms in children {
-        let next = next_node(alloc, branch, forms.as_slice(), above, left, why)?;
-        why = next.why;
-        all.push(child(alloc, forms.as_slice(), next.node)?)?;
+        let raw = copied(alloc, forms.as_slice())?;
+        let normal = copied(alloc, forms.as_slice())?;
+        let Grown { node, why: next } = next_node(alloc, branch, forms.as_slice(), above, left, why)?;
+        why = next;
+        all.push(Child { raw, normal, node })?;
     }
     Ok(GrownChildren { children: all, why })
-}
-
-/// A child with the formulas that it brings, each its own normal form.
-fn child(alloc: Global, forms: &[Form], node: Node) -> Result<Child, AllocError>
-    ensures { IfOk result (λ c. child_tree c ≡ bringing (map form_tree forms.now) (node_tree node)) }
-{
-    let raw = copied(alloc, forms)?;
-    let normal = copied(alloc, forms)?;
-    Ok(Child { raw, normal, node })
 }
 
 /// The node of the next child; an Open leaf once the search has stopped.
@@ -159,12 +149,28 @@ fn next_node(
 {
     match why {
         Some(why) => Ok(stopped(why)),
-        None => {
-            let from = branch.len();
-            extend(alloc, branch, forms)?;
-            let grown = grow(alloc, branch, from, above, left)?;
-            cut(branch, from);
-            Ok(grown)
-        }
+        None => grow_child(alloc, branch, forms, above, left),
     }
+}
+
+/// The node below a branch that the formulas of a child are put on. The branch is then as before.
+#[cycle(grow)]
+#[tactic(auto, using(crate::proofs::Places::grown_closing))]
+fn grow_child(
+    alloc: Global,
+    branch: &mut Items<Form>,
+    forms: &[Form],
+    above: u32,
+    left: &mut u32,
+) -> Result<Grown, AllocError>
+    requires short { above ≤ 512 }
+    requires unclosed { closing (map form_tree branch.old) ≡ None }
+    ensures grown { IfOk result (λ g. IsGrown (spec_extend (map form_tree branch.old) (map form_tree forms.now)) above left.old left.new (node_tree g.node) (cause g.why)) }
+    ensures kept { OnOk result (branch.new ≡ branch.old) }
+{
+    let from = branch.len();
+    extend(alloc, branch, forms)?;
+    let grown = grow(alloc, branch, from, above, left);
+    cut(branch, from);
+    grown
 }

@@ -1,12 +1,13 @@
-ghost use Rattle.std.specs.Prelude.{◌≡◌, IfOk, MatchOption, map, []};
+ghost use Rattle.std.specs.Prelude.{◌≡◌, IfOk, MatchOption, map, [], ◌∷◌};
 ghost use Rattle.zm_logic.specs.Tree as tree;
 ghost use Rattle.zm_logic.specs.View.{form_tree};
+ghost use Rattle.search.specs.Branch.{signed as signed_tree};
 ghost use Rattle.search.specs.RawOffers as raw;
 ghost use Rattle.search.specs.Offers as spec;
 ghost use Rattle.search.specs.Tableau.{IsOfferAt};
 ghost use Rattle.search.specs.View.{kind_tree, act_tree, forms_trees};
 
-use crate::branch::{has, negation};
+use crate::branch::{has, one, signed};
 use crate::node::{Act, Kind};
 use sqlite_items::{Boxed, Items};
 use std::alloc::{AllocError, Global};
@@ -20,20 +21,18 @@ pub struct Offer {
     pub children: Items<Items<Form>>,
 }
 
-fn one(alloc: Global, first: Form) -> Result<Items<Form>, AllocError>
-    ensures { IfOk result (λ fs. map form_tree fs ≡ raw.one (form_tree first)) }
+fn two(
+    alloc: Global,
+    holds: bool,
+    first: &Form,
+    second_holds: bool,
+    second: &Form,
+) -> Result<Items<Form>, AllocError>
+    ensures { IfOk result (λ fs. map form_tree fs ≡ signed_tree holds (form_tree first.now) ∷ signed_tree second_holds (form_tree second.now) ∷ []) }
 {
     let mut all = Items::new(alloc);
-    all.push(first)?;
-    Ok(all)
-}
-
-fn two(alloc: Global, first: Form, second: Form) -> Result<Items<Form>, AllocError>
-    ensures { IfOk result (λ fs. map form_tree fs ≡ raw.two (form_tree first) (form_tree second)) }
-{
-    let mut all = Items::new(alloc);
-    all.push(first)?;
-    all.push(second)?;
+    all.push(signed(alloc, holds, first)?)?;
+    all.push(signed(alloc, second_holds, second)?)?;
     Ok(all)
 }
 
@@ -63,23 +62,17 @@ fn split_negation(alloc: Global, form: &Form) -> Result<Items<Items<Form>>, Allo
     ensures { IfOk result (λ cs. forms_trees cs ≡ raw.split (tree.Form.negation (form_tree form.now))) }
 {
     match form {
-        Form::Not(a) => alpha(alloc, one(alloc, a.get().copy(alloc)?)?),
+        Form::Not(a) => alpha(alloc, one(alloc, true, a.get())?),
         Form::And(a, b) => {
-            let left = one(alloc, negation(alloc, a.get())?)?;
-            let right = one(alloc, negation(alloc, b.get())?)?;
+            let left = one(alloc, false, a.get())?;
+            let right = one(alloc, false, b.get())?;
             beta(alloc, left, right)
         }
-        Form::Or(a, b) => {
-            let forms = two(alloc, negation(alloc, a.get())?, negation(alloc, b.get())?)?;
-            alpha(alloc, forms)
-        }
-        Form::Imp(a, b) => {
-            let forms = two(alloc, a.get().copy(alloc)?, negation(alloc, b.get())?)?;
-            alpha(alloc, forms)
-        }
+        Form::Or(a, b) => alpha(alloc, two(alloc, false, a.get(), false, b.get())?),
+        Form::Imp(a, b) => alpha(alloc, two(alloc, true, a.get(), false, b.get())?),
         Form::Iff(a, b) => {
-            let left = two(alloc, a.get().copy(alloc)?, negation(alloc, b.get())?)?;
-            let right = two(alloc, negation(alloc, a.get())?, b.get().copy(alloc)?)?;
+            let left = two(alloc, true, a.get(), false, b.get())?;
+            let right = two(alloc, false, a.get(), true, b.get())?;
             beta(alloc, left, right)
         }
         Form::True
@@ -98,23 +91,20 @@ fn split(alloc: Global, form: &Form) -> Result<Items<Items<Form>>, AllocError>
 {
     match form {
         Form::Not(a) => split_negation(alloc, a.get()),
-        Form::And(a, b) => {
-            let forms = two(alloc, a.get().copy(alloc)?, b.get().copy(alloc)?)?;
-            alpha(alloc, forms)
-        }
+        Form::And(a, b) => alpha(alloc, two(alloc, true, a.get(), true, b.get())?),
         Form::Or(a, b) => {
-            let left = one(alloc, a.get().copy(alloc)?)?;
-            let right = one(alloc, b.get().copy(alloc)?)?;
+            let left = one(alloc, true, a.get())?;
+            let right = one(alloc, true, b.get())?;
             beta(alloc, left, right)
         }
         Form::Imp(a, b) => {
-            let left = one(alloc, negation(alloc, a.get())?)?;
-            let right = one(alloc, b.get().copy(alloc)?)?;
+            let left = one(alloc, false, a.get())?;
+            let right = one(alloc, true, b.get())?;
             beta(alloc, left, right)
         }
         Form::Iff(a, b) => {
-            let left = two(alloc, a.get().copy(alloc)?, b.get().copy(alloc)?)?;
-            let right = two(alloc, negation(alloc, a.get())?, negation(alloc, b.get())?)?;
+            let left = two(alloc, true, a.get(), true, b.get())?;
+            let right = two(alloc, false, a.get(), false, b.get())?;
             beta(alloc, left, right)
         }
         Form::True
@@ -171,13 +161,13 @@ fn offering(alloc: Global, on: &Form, children: Items<Items<Form>>) -> Result<Of
 }
 
 /// The first offer of a branch, if it has one.
-pub fn first_offer(alloc: Global, branch: &[Form]) -> Result<Option<Offer>, AllocError>
+pub fn first_offer(alloc: Global, branch: &[Form]) -> Result<Option<Boxed<Offer>>, AllocError>
     ensures { IfOk result (λ r. MatchOption r (spec.offers (map form_tree branch.now) ≡ []) (λ o. IsOfferAt (map form_tree branch.now) 0 (kind_tree o.kind) (act_tree o.act) (spec.make_children (forms_trees o.children)))) }
 {
     for f in branch {
         let children = split(alloc, f)?;
         if !children.is_empty() && !has_some(branch, children.as_slice()) {
-            return Ok(Some(offering(alloc, f, children)?));
+            return Ok(Some(Boxed::new(alloc, offering(alloc, f, children)?)?));
         }
     }
     Ok(None)

@@ -7,16 +7,19 @@ use Rattle.search.specs.Grown.{AreGrown}
 use Rattle.search.proofs.growth.+grow.Given as goal
 
 abbrev pub decreases-grow : goal.decreases-grow
-decreases-grow l = 4 * (512 - l.above)
+decreases-grow l = 5 * (512 - l.above)
 
 abbrev pub decreases-step : goal.decreases-step
-decreases-step l = 4 * (512 - l.above) - 1
+decreases-step l = 5 * (512 - l.above) - 1
 
 abbrev pub decreases-grow_all : goal.decreases-grow_all
-decreases-grow_all l = 4 * (512 - l.above) + 2
+decreases-grow_all l = 5 * (512 - l.above) + 3
 
 abbrev pub decreases-next_node : goal.decreases-next_node
-decreases-next_node l = 4 * (512 - l.above) + 1
+decreases-next_node l = 5 * (512 - l.above) + 2
+
+abbrev pub decreases-grow_child : goal.decreases-grow_child
+decreases-grow_child l = 5 * (512 - l.above) + 1
 
 abbrev pub invariant-grow_all-loop-forms : goal.invariant-grow_all-loop-forms
 invariant-grow_all-loop-forms l = record {
