@@ -8,5 +8,8 @@ pub mod Unclosed
 pub mod Saturated
 pub mod Falsified
 pub mod Places
+pub mod Parts
 pub mod Growing
 pub mod Found
+pub mod Entered
+pub mod Ground

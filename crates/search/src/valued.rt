@@ -39,13 +39,21 @@ pub fn valuation_of(
 {
     let mut branch = root_branch(alloc, problem)?;
     enter(alloc, tableau.root(), &mut branch)?;
-    let mut valuation = Items::new(alloc);
-    for atom in problem_atoms(alloc, problem)?.as_slice() {
-        let truth = has(branch.as_slice(), atom);
-        let atom = atom.copy(alloc)?;
-        valuation.push(Valued { atom, truth })?;
+    let atoms = problem_atoms(alloc, problem)?;
+    values_on(alloc, branch.as_slice(), atoms.as_slice())
+}
+
+/// Each of the atoms, true exactly where it stands on the branch.
+fn values_on(alloc: Global, branch: &[Form], atoms: &[Form]) -> Result<Valuation, AllocError>
+    ensures { IfOk result (λ v. map valued_tree v ≡ map (spec.value_on (map form_tree branch.now)) (map form_tree atoms.now)) }
+{
+    let mut all = Items::new(alloc);
+    for a in atoms {
+        let atom = a.copy(alloc)?;
+        let truth = has(branch, a);
+        all.push(Valued { atom, truth })?;
     }
-    Ok(valuation)
+    Ok(all)
 }
 
 /// Goes from the branch of a node to that of its first Open leaf. Where there is none, it answers false, and the branch is
