@@ -51,7 +51,7 @@ module _ (symbols : List Symbol) (rules : List Rule) where
   swapped_derives gamma (Form.equal t a b) (Form.negation (Form.equal u c d)) hg hf e =
       let p = both_true (same_type t u) _ e in let q = both_true (same_term a d) (same_term b c) p.1 in
       let eq : Form.negation (Form.equal u c d) ≡ Form.negation (Form.equal t b a) =
-        let i = same_type-true t u p.0 in let j = same_term-true a d q.0 in let k = same_term-true b c q.1 in cc in
+      let i = same_type-true t u p.0 in let j = same_term-true a d q.0 in let k = same_term-true b c q.1 in cc in
       let P : Form → Type 0 = λ x. Contains gamma x in
       Derives.symmetric t a b hg (subst P eq hf)
   swapped_derives gamma g f hg hf e = cc

@@ -25,15 +25,15 @@ use Rattle.search.proofs.Loops.{extend_append, front, forms_of}
 pub joined_atoms : (x f g : Form) → (x ≡ And f g) ⊎ ((x ≡ Or f g) ⊎ ((x ≡ Imp f g) ⊎ (x ≡ Iff f g)))
     → atoms (form_tree f) ++ atoms (form_tree g) ≡ atoms (form_tree x)
 joined_atoms x f g h = elim h [
-    | inl e ↦ sym (ap (λ y. atoms (form_tree y)) (e ∙ sym (rolls-And f g)) ∙ ap atoms (fold-roll-Form tree.Form step_of_form (layer.And f g)))
-    | inr k ↦ elim k [
-      | inl e ↦ sym (ap (λ y. atoms (form_tree y)) (e ∙ sym (rolls-Or f g)) ∙ ap atoms (fold-roll-Form tree.Form step_of_form (layer.Or f g)))
-      | inr l ↦ elim l [
-        | inl e ↦ sym (ap (λ y. atoms (form_tree y)) (e ∙ sym (rolls-Imp f g)) ∙ ap atoms (fold-roll-Form tree.Form step_of_form (layer.Imp f g)))
-        | inr e ↦ sym (ap (λ y. atoms (form_tree y)) (e ∙ sym (rolls-Iff f g)) ∙ ap atoms (fold-roll-Form tree.Form step_of_form (layer.Iff f g)))
-      ]
+  | inl e ↦ sym (ap (λ y. atoms (form_tree y)) (e ∙ sym (rolls-And f g)) ∙ ap atoms (fold-roll-Form tree.Form step_of_form (layer.And f g)))
+  | inr k ↦ elim k [
+    | inl e ↦ sym (ap (λ y. atoms (form_tree y)) (e ∙ sym (rolls-Or f g)) ∙ ap atoms (fold-roll-Form tree.Form step_of_form (layer.Or f g)))
+    | inr l ↦ elim l [
+      | inl e ↦ sym (ap (λ y. atoms (form_tree y)) (e ∙ sym (rolls-Imp f g)) ∙ ap atoms (fold-roll-Form tree.Form step_of_form (layer.Imp f g)))
+      | inr e ↦ sym (ap (λ y. atoms (form_tree y)) (e ∙ sym (rolls-Iff f g)) ∙ ap atoms (fold-roll-Form tree.Form step_of_form (layer.Iff f g)))
     ]
   ]
+]
 
 pub step_opens : (k : ℕ) (t : Kind) (a : Act) (cs : List Child) → node_tree (Step k t a cs) ≡ tableau.Node.step k (kind_tree t) (act_tree a) (children_tree cs)
 step_opens k t a cs = ap node_tree (sym (rolls-Step k t a cs)) ∙ fold-roll-Node tableau.Node ChildTree step_of_node step_of_child (node_layer.Step k t a cs)

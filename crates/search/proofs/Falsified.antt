@@ -99,8 +99,8 @@ falsifies p n leaf e u o i =
     record {
       premises = All-weaker (Contains p.premises) T
           (λ x h. let k : Contains ps x.form = map-there of p.premises x h in
-            listed-truth b p x.form (free x h) (Contains-append_left ps (c ∷ []) x.form k)
-            ∙ (agrees b x.form u o (free x h)).yes (on x.form (Contains-append_left ps (Form.negation c ∷ []) x.form k)))
+          listed-truth b p x.form (free x h) (Contains-append_left ps (c ∷ []) x.form k)
+          ∙ (agrees b x.form u o (free x h)).yes (on x.form (Contains-append_left ps (Form.negation c ∷ []) x.form k)))
           p.premises (All-contains_itself p.premises);
       conjecture = listed-truth b p c (quantifier_free c i.conjecture) (Contains-append_right ps (c ∷ []) c (Contains-here c []))
           ∙ (agrees b c u o (quantifier_free c i.conjecture)).no (on (Form.negation c) (Contains-append_right ps (Form.negation c ∷ []) (Form.negation c) (Contains-here (Form.negation c) [])));

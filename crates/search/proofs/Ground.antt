@@ -36,9 +36,9 @@ formula_is_propositional p f i h =
 
 pub listed_is_ground : (p : Problem) (a : Form) → IsPropositionalProblem p → Contains (problem_atoms p) a → IsGroundAtom a
 listed_is_ground p a i h = elim (extend-cases [] (flat_map atoms (formulas p)) a h) [
-    | inl k ↦ absurd (Contains-none a k)
-    | inr k ↦ let s = flat_map-source atoms (formulas p) a k in atom_is_ground s.0 a (formula_is_propositional p s.0 i s.1) s.2
-  ]
+  | inl k ↦ absurd (Contains-none a k)
+  | inr k ↦ let s = flat_map-source atoms (formulas p) a k in atom_is_ground s.0 a (formula_is_propositional p s.0 i s.1) s.2
+]
 
 pub add_distinct : (b : List Form) (f : Form) → AllPairs (λ x y. x ≢ y) b → AllPairs (λ x y. x ≢ y) (add b f)
 add_distinct b f h = go (has b f) refl
@@ -64,7 +64,7 @@ pub is_valuation : (b : List Form) (p : Problem) → IsPropositionalProblem p �
 is_valuation b p i = record {
   ground = All-weaker (Contains (valuation b p)) (λ x. IsGroundAtom x.atom)
       (λ x h. let s = map-source (value_on b) (problem_atoms p) x h in
-        let P : Valued → Type 0 = λ y. IsGroundAtom y.atom in subst P s.2 (listed_is_ground p s.0 i s.1))
+      let P : Valued → Type 0 = λ y. IsGroundAtom y.atom in subst P s.2 (listed_is_ground p s.0 i s.1))
       (valuation b p) (All-contains_itself (valuation b p));
   distinct = values_distinct b (problem_atoms p) (extend_distinct [] (flat_map atoms (formulas p)) (λ i j d l m. absurd (omega (arith, m))));
 }

@@ -82,7 +82,7 @@ pub passed : (b : List Code) (i : ℕ) (x : Code) (cs : List (List Code)) → i 
 passed b i x cs l e s h inv =
     let B = map form_tree b in
     let none : (split (form_tree x) ≡ []) ⊎ (has_some B (split (form_tree x)) ≡ true) =
-      elim h [ inl q ↦ inl (sym s ∙ empty_trees cs q) | inr q ↦ inr (ap (has_some B) (sym s) ∙ q) ] in
+    elim h [ inl q ↦ inl (sym s ∙ empty_trees cs q) | inr q ↦ inr (ap (has_some B) (sym s) ∙ q) ] in
     inv
     ∙ (at_place b b i x l e
     ∙ (useful_skip B (map form_tree (take i b)) (map form_tree (drop (i + 1) b)) (form_tree x) none
@@ -98,9 +98,9 @@ found b i x cs k a l e s n h p q inv =
     let gs = map form_tree (take i b) in
     let f = form_tree x in
     let listed : offers B ≡ made (length gs) None (Raw.offer (split_kind (split f)) (on f) (split f)) ∷ useful_from B (gs ++ f ∷ []) (map form_tree (drop (i + 1) b)) =
-      inv
-      ∙ (at_place b b i x l e
-      ∙ useful_here B gs (map form_tree (drop (i + 1) b)) f (λ z. n (trees_empty cs (s ∙ z))) (ap (has_some B) (sym s) ∙ h)) in
+    inv
+    ∙ (at_place b b i x l e
+    ∙ useful_here B gs (map form_tree (drop (i + 1) b)) f (λ z. n (trees_empty cs (s ∙ z))) (ap (has_some B) (sym s) ∙ h)) in
     record {
       offer = made (length gs) None (Raw.offer (split_kind (split f)) (on f) (split f));
       listed = ap (λ os. slice_get os 0) listed;

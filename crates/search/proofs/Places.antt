@@ -24,7 +24,7 @@ pub grown_closing : (b below : List Code) → take (length b) below ≡ b → cl
 grown_closing b below e u =
     let n = length b in
     let parts : map form_tree below ≡ map form_tree (take n below) ++ map form_tree (drop n below) =
-      ap (map form_tree) (sym (take-append-drop n below)) ∙ map-append form_tree (take n below) (drop n below) in
+    ap (map form_tree) (sym (take-append-drop n below)) ∙ map-append form_tree (take n below) (drop n below) in
     let none : closing (map form_tree (take n below)) ≡ None = ap (λ xs. closing (map form_tree xs)) e ∙ u in
     ap closing parts
     ∙ (closing_append [] (map form_tree (take n below)) (map form_tree (drop n below))

@@ -62,10 +62,12 @@ own-raw gs (g ∷ fs) f r h p =
     elim (Contains-cases g fs f h) [
       | inl e ↦
           let P : Form → Type 0 = λ x. Contains (own_offers x) r in
-          let o : Placed = record { raw = r; later = length gs; earlier = None } in
-          (length gs, Contains-append_left (offers_at gs g) rest o
-          (Contains-append_left (placed (length gs) None (own_offers g)) (pairs_with (length gs) 0 gs g) o
-          (placed-here (length gs) None (own_offers g) r (subst P (sym e) p))))
+          let o : Placed = record { raw = r; later = length gs; earlier = None } in (
+            length gs,
+            Contains-append_left (offers_at gs g) rest o
+                (Contains-append_left (placed (length gs) None (own_offers g)) (pairs_with (length gs) 0 gs g) o
+                (placed-here (length gs) None (own_offers g) r (subst P (sym e) p))),
+          )
       | inr a ↦
           let s = own-raw (gs ++ g ∷ []) fs f r a p in
           (s.0, Contains-append_right (offers_at gs g) rest (record { raw = r; later = s.0; earlier = None }) s.1)

@@ -125,7 +125,14 @@ fn grow_all(
     for forms in children {
         let raw = copied(alloc, forms.as_slice())?;
         let normal = copied(alloc, forms.as_slice())?;
-        let Grown { node, why: next } = next_node(alloc, branch, forms.as_slice(), above, left, why)?;
+        let Grown { node, why: next } = next_node(
+            alloc,
+            branch,
+            forms.as_slice(),
+            above,
+            left,
+            why,
+        )?;
         why = next;
         all.push(Child { raw, normal, node })?;
     }

@@ -8,6 +8,8 @@ mod node;
 mod offer;
 mod run;
 mod tableau;
+#[cfg(test)]
+mod tests;
 mod valued;
 
 pub use node::{Act, Child, ClosingPair, Kind, Node, Why};

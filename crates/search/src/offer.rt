@@ -148,7 +148,11 @@ fn offering(alloc: Global, on: &Form, children: Items<Items<Form>>) -> Result<Of
     ensures act { IfOk result (λ o. act_tree o.act ≡ raw.on (form_tree on.now)) }
     ensures children { IfOk result (λ o. o.children ≡ children) }
 {
-    let kind = if children.len() < 2 { Kind::Alpha } else { Kind::Beta };
+    let kind = if children.len() < 2 {
+        Kind::Alpha
+    } else {
+        Kind::Beta
+    };
     let act = Act {
         first: on.copy(alloc)?,
         second: None,

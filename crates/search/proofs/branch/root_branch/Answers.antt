@@ -20,7 +20,7 @@ returns c =
     let done : length ps ≤ c.loop-premise.premise-index = c.loop-premise-test.false in
     let all : take c.loop-premise.premise-index ps ≡ ps = take_all c.loop-premise.premise-index ps done in
     let premises : map form_tree c.loop-premise.branch ≡ spec.extend [] (map (λ premise. form_tree premise.form) ps) =
-      c.loop-premise.invariant ∙ ap (λ qs. spec.extend [] (map (λ premise. form_tree premise.form) qs)) all in
+    c.loop-premise.invariant ∙ ap (λ qs. spec.extend [] (map (λ premise. form_tree premise.form) qs)) all in
     c.in_ok-extend.ensures.added
     ∙ (ap (λ fs. spec.extend (map form_tree c.loop-premise.branch) fs) goal_is
     ∙ (ap (λ b. spec.extend b (g ∷ [])) premises

@@ -17,9 +17,9 @@ grow_all-loop-forms-preserved t c =
     let x : Child = record { raw = c.in_ok-raw.raw; normal = c.in_ok-normal.normal; node = n } in
     let same : c.as_slice-in-loop-forms-2.result.now ≡ f = c.as_slice-in-loop-forms-2.ensures in
     let next : IsNext (extend b (map form_tree f)) c.args.above c.loop-forms.left c.next_node.new.left (cause c.loop-forms.why) (node_tree n) (cause c.in_ok-node.field-0.why) =
-      rw (← c.loop-forms.invariant.kept, ← same) c.in_ok-node.ensures.grown in
+    rw (← c.loop-forms.invariant.kept, ← same) c.in_ok-node.ensures.grown in
     let child : child_tree x ≡ bringing (map form_tree f) (node_tree n) =
-      child_is c.in_ok-raw.raw c.in_ok-normal.normal f n (c.in_ok-raw.ensures ∙ c.as_slice.ensures) (c.in_ok-normal.ensures ∙ c.as_slice-in-loop-forms.ensures) in
+    child_is c.in_ok-raw.raw c.in_ok-normal.normal f n (c.in_ok-raw.ensures ∙ c.as_slice.ensures) (c.in_ok-normal.ensures ∙ c.as_slice-in-loop-forms.ensures) in
     let made : c.push.new.self ≡ c.loop-forms.all ++ x ∷ [] = search rules in
     record {
       kept = c.in_ok-node.ensures.kept ∙ c.loop-forms.invariant.kept;

@@ -17,7 +17,7 @@ returns-then-not-has_some c =
     let children : o.children ≡ cs = c.in_ok-offering.ensures.children in
     let unused : spec.has_some b (forms_trees cs) ≡ false = ap (λ ds. spec.has_some b (forms_trees ds)) (sym c.as_slice.ensures) ∙ sym c.if-not-has_some.ensures in
     let at = found c.args.branch.now c.loop-f.f-index c.f-item.result cs (kind_tree o.kind) (act_tree o.act) c.loop-f-test.true c.f-item.is c.in_ok-children.ensures
-        (λ e. let h : false ≡ true = c.if-not-is_empty.ensures.1 e in cc) unused c.in_ok-offering.ensures.kind c.in_ok-offering.ensures.act c.loop-f.invariant in
+    (λ e. let h : false ≡ true = c.if-not-is_empty.ensures.1 e in cc) unused c.in_ok-offering.ensures.kind c.in_ok-offering.ensures.act c.loop-f.invariant in
     subst P (sym c.in_ok-new.ensures) (rw children at)
 
 pub loop-f-preserved : goal.loop-f-preserved

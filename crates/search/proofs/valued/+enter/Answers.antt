@@ -16,5 +16,5 @@ enter-returns-in-Step-clause-entered t c =
     (λ found. (d : ℕ) → IsEntered found new (current_of b d (children_tree c.as_slice.result.now)))
     (λ found. (d : ℕ) → IsEntered found new (current b d (node_tree c.args.node.now)))
     (λ found h. let P : List Child → Type 0 = λ cs. (d : ℕ) → IsEntered found new (current_of b d (children_tree cs)) in
-      entered_step found b new c.args.node.now c.in-Step.pick c.in-Step.kind c.in-Step.act c.in-Step.children c.in-Step.is (subst P c.as_slice.ensures h))
+    entered_step found b new c.args.node.now c.in-Step.pick c.in-Step.kind c.in-Step.act c.in-Step.children c.in-Step.is (subst P c.as_slice.ensures h))
     c.enter_one.ensures.entered

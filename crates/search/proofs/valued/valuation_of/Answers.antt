@@ -16,5 +16,5 @@ returns-clause-valuation c =
     (λ v. map valued_tree v ≡ map (spec.value_on b) (map form_tree c.as_slice-2.result.now))
     (λ v. IsValuation (map valued_tree v))
     (λ v h. let P : List Valued → Type 0 = λ w. IsValuation w in
-      subst P (sym (h ∙ ap (map (spec.value_on b)) listed)) (is_valuation b p c.requires.propositional))
+    subst P (sym (h ∙ ap (map (spec.value_on b)) listed)) (is_valuation b p c.requires.propositional))
     c.values_on.ensures
