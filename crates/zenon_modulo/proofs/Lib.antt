@@ -1,2 +1,9 @@
 pub mod Misuses
 pub mod Picks
+pub mod NameLists
+pub mod Gathered
+pub mod TextsRead
+pub mod NameCounts
+pub mod Spelled
+pub mod SymbolNames
+pub mod Answered

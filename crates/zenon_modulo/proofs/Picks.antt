@@ -25,8 +25,8 @@ pub picks_step : (start before after ks : List ℕ) (i d : ℕ) → i < length k
 picks_step start before after ks i d h b a =
     let len : length (take i ks) ≡ i = length-take-le i ks (omega arith) in
     let p : picks_text (take (i + 1) ks) ≡ picks_text (take i ks) ++ (separator i ++ decimal (get_or ks i d)) =
-        ap picks_text (take_more ks i d h) ∙ picks_push (take i ks) (get_or ks i d)
-        ∙ ap (λ n. picks_text (take i ks) ++ (separator n ++ decimal (get_or ks i d))) len in
+    ap picks_text (take_more ks i d h) ∙ picks_push (take i ks) (get_or ks i d)
+    ∙ ap (λ n. picks_text (take i ks) ++ (separator n ++ decimal (get_or ks i d))) len in
     a ∙ ap (λ t. t ++ separator i ++ decimal (get_or ks i d)) b
     ∙ append_assoc (start ++ picks_text (take i ks)) (separator i) (decimal (get_or ks i d))
     ∙ append_assoc start (picks_text (take i ks)) (separator i ++ decimal (get_or ks i d))

@@ -1,5 +1,5 @@
 -- What an answer claims of the problem that the input spells.
-use Rattle.std.specs.Prelude.{ℕ, ◌≡◌, ◌≢◌, ◌≤◌, ◌<◌, ◌+◌, ◌×◌, true, List, [], Option, Some, IfSome, All, length, drop}
+use Rattle.std.specs.Prelude.{ℕ, ◌≡◌, ◌≢◌, ◌≤◌, ◌<◌, ◌+◌, true, List, [], Option, Some, IfSome, All, length, drop}
 use Rattle.zm_logic.specs.Tree.{Problem}
 use Rattle.zm_logic.specs.Calculus.{Derives}
 use Rattle.zm_logic.specs.Truth.{Valued, Falsifies, refuted}

@@ -4,3 +4,5 @@ pub mod Reading
 pub mod Text
 pub mod Outcome
 pub mod Answer
+pub mod Report
+pub mod Writing

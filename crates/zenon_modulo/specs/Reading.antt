@@ -1,5 +1,5 @@
 -- The problem that a text spells: its statements are read, and each name stands for a proposition.
-use Rattle.std.specs.Prelude.{ℕ, ◌+◌, ◌≡◌, ◌||◌, Bool, false, cond, List, [], ◌∷◌, ◌++◌, map, Option, Some, None}
+use Rattle.std.specs.Prelude.{ℕ, ◌+◌, ◌≡◌, ◌||◌, Bool, false, cond, List, [], ◌∷◌, ◌++◌, map, flat_map, Option, Some, None}
 use Rattle.std.specs.Option.{option_map, option_to_list}
 use Rattle.std.specs.Str.{bytes_eq}
 use Rattle.tptp_reader.specs.declared.form.RawRole.{RawRole}
@@ -70,8 +70,7 @@ premise_in names (raw.formula name role f) = option_map (λ r. record { name = n
 
 -- the premises in order
 abbrev pub premises_in : List Name → List RawStatement → List Premise
-premises_in names [] = []
-premises_in names (s ∷ more) = option_to_list (premise_in names s) ++ premises_in names more
+premises_in names statements = flat_map (λ s. option_to_list (premise_in names s)) statements
 
 abbrev pub conjecture_in : RawStatement → Option Raw
 conjecture_in (raw.formula name roles.Conjecture f) = Some f
@@ -79,8 +78,7 @@ conjecture_in (raw.formula name role f) = None
 
 -- the conjectures in order
 abbrev pub conjectures_in : List RawStatement → List Raw
-conjectures_in [] = []
-conjectures_in (s ∷ more) = option_to_list (conjecture_in s) ++ conjectures_in more
+conjectures_in statements = flat_map (λ s. option_to_list (conjecture_in s)) statements
 
 -- a proposition: a predicate without arguments
 abbrev pub proposition : Name → Symbol

@@ -1,5 +1,5 @@
 -- What is written for an answer, as a list of bytes.
-use Rattle.std.specs.Prelude.{ℕ, zero, suc, Bool, codes, decimal, cond, List, [], ◌∷◌, ◌++◌, map}
+use Rattle.std.specs.Prelude.{ℕ, ◌-◌, Bool, codes, decimal, cond, List, [], ◌∷◌, ◌++◌, map, flat_map, slice_index_or}
 use Rattle.zm_logic.specs.Tree.{Form, Problem}
 use Rattle.zm_logic.specs.Truth.{Valued}
 use Rattle.search.specs.Tableau.{Node, picks}
@@ -24,14 +24,9 @@ picks_text (k ∷ ks) = codes " " ++ decimal k ++ further_picks ks
 abbrev pub names_of : Problem → List (List ℕ)
 names_of p = map (λ s. s.name) p.symbols
 
-abbrev pub name_at : List (List ℕ) → ℕ → List ℕ
-name_at [] n = []
-name_at (name ∷ names) zero = name
-name_at (name ∷ names) (suc n) = name_at names n
-
--- an atom without arguments prints as its name
+-- an atom prints as its name; the first name is that of symbol 1
 abbrev pub atom_text : List (List ℕ) → Form → List ℕ
-atom_text names (Form.atom (suc n) types terms) = name_at names n
+atom_text names (Form.atom p types terms) = slice_index_or names (p - 1) []
 atom_text names f = []
 
 abbrev pub truth_text : Bool → List ℕ
@@ -39,8 +34,7 @@ truth_text b = cond b (codes " = true\n") (codes " = false\n")
 
 -- a line for each atom
 abbrev pub valuation_text : List (List ℕ) → List Valued → List ℕ
-valuation_text names [] = []
-valuation_text names (v ∷ vs) = atom_text names v.atom ++ truth_text v.truth ++ valuation_text names vs
+valuation_text names v = flat_map (λ x. atom_text names x.atom ++ truth_text x.truth) v
 
 -- the name of a cause
 abbrev pub cause_text : Cause → List ℕ

@@ -1,4 +1,5 @@
 ghost use Rattle.std.specs.Prelude.{◌≡◌, ◌≤◌, length, map, OnOk, IfOk};
+ghost use Rattle.std.specs.Str.{bytes_eq};
 ghost use Rattle.tptp_reader.specs.View.{form_tree, statement_tree};
 ghost use Rattle.zenon_modulo.specs.Reading as reading;
 
@@ -7,11 +8,18 @@ use std::alloc::{AllocError, Global};
 use tptp_reader::{Body, RawForm, Statement};
 use zm_logic::Text;
 
+fn is_named(name: &Text, wanted: &str) -> bool
+    ensures { result ≡ bytes_eq name.now wanted.now }
+{
+    name.text() == wanted
+}
+
+#[tactic(auto, using(crate::proofs::NameLists::has_here, crate::proofs::NameLists::has_later, crate::proofs::NameLists::has_end))]
 fn has_name(names: &[Text], wanted: &str) -> bool
     ensures { result ≡ reading.has_name names.now wanted.now }
 {
     for name in names {
-        if name.text() == wanted {
+        if is_named(name, wanted) {
             return true;
         }
     }
@@ -53,6 +61,7 @@ fn add_names_of(
     }
 }
 
+#[tactic(auto, using(crate::proofs::NameLists::names_later, crate::proofs::NameLists::names_end))]
 /// The distinct names of the atoms of statements, in order of first appearance.
 pub fn names_in(alloc: Global, statements: &[Statement]) -> Result<Items<Text>, AllocError>
     ensures { IfOk result (λ names. names ≡ reading.names_in (map statement_tree statements.now)) }
@@ -64,13 +73,14 @@ pub fn names_in(alloc: Global, statements: &[Statement]) -> Result<Items<Text>, 
     Ok(names)
 }
 
+#[tactic(auto, using(crate::proofs::NameLists::place_here, crate::proofs::NameLists::place_later, crate::proofs::NameLists::place_end))]
 /// The place of a name in a list of names, and the number of names where it isn't there.
 pub fn place_of(names: &[Text], wanted: &str) -> usize
     ensures place { result ≡ reading.place_of names.now wanted.now }
     ensures within { result ≤ length names.now }
 {
     for (i, name) in names.iter().enumerate() {
-        if name.text() == wanted {
+        if is_named(name, wanted) {
             return i;
         }
     }

@@ -16,14 +16,19 @@ pub enum InputRefusal {
 #[derive(Drop)]
 pub enum Outcome {
     /// The conjecture follows from the premises: a tableau with no open leaf shows it.
-    Proved { tableau: Tableau<Closed> },
+    Proved {
+        tableau: Tableau<Closed>,
+    },
     /// The valuation makes every premise true and the conjecture false.
     Falsified {
         valuation: Valuation,
         tableau: Tableau<Open>,
     },
     /// The search stopped before it came to an end.
-    Unknown { why: Why, tableau: Tableau<Open> },
+    Unknown {
+        why: Why,
+        tableau: Tableau<Open>,
+    },
     /// The input isn't accepted.
     Refused(InputRefusal),
     /// The words are no command.

@@ -1,4 +1,4 @@
-ghost use Rattle.std.specs.Prelude.{◌≡◌, ◌+◌, ◌<◌, ◌-◌, ◌^◌, length, map, None, IfOk, Ok, Err};
+ghost use Rattle.std.specs.Prelude.{◌≡◌, ◌+◌, ◌<◌, ◌-◌, ◌^◌, length, map, IfOk, OnErr};
 ghost use Rattle.std.specs.Option.{option_map, option_to_list};
 ghost use Rattle.tptp_reader.specs.View as raw;
 ghost use Rattle.zm_logic.specs.Tree as tree;
@@ -36,7 +36,11 @@ fn proposition(alloc: Global, place: usize) -> Form
     requires { place < 2 ^ 32 - 1 }
     ensures { logic.form_tree result ≡ tree.Form.atom (place + 1) tree.Tys.none tree.Terms.none }
 {
-    Form::Atom(SymId(place as u32 + 1), Items::new(alloc), Items::new(alloc))
+    Form::Atom(
+        SymId(place as u32 + 1),
+        Items::new(alloc),
+        Items::new(alloc),
+    )
 }
 
 #[cycle(form_of)]
@@ -102,7 +106,6 @@ fn premise_in(
     Ok(Some(Premise { name, role, form }))
 }
 
-#[tactic(auto, using(crate::proofs::Further::premises_further))]
 fn premises_in(
     alloc: Global,
     names: &[Text],
@@ -143,7 +146,7 @@ struct SecondConjecture;
 
 fn only_conjecture(statements: &[Statement]) -> Result<Option<&RawForm>, SecondConjecture>
     ensures one { IfOk result (λ c. reading.conjectures_in (map raw.statement_tree statements.now) ≡ option_to_list (option_map (λ f. raw.form_tree f.now) c)) }
-    ensures two { result ≡ Err record {} → 1 < length (reading.conjectures_in (map raw.statement_tree statements.now)) }
+    ensures two { OnErr result (1 < length (reading.conjectures_in (map raw.statement_tree statements.now))) }
 {
     let mut found = None;
     for statement in statements {

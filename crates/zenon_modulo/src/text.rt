@@ -1,8 +1,12 @@
-ghost use Rattle.std.specs.Prelude.{◌≡◌, ◌++◌, OnOk, codes, decimal, true, if◌then◌else◌};
-ghost use Rattle.zenon_modulo.specs.Text.{picks_text};
+ghost use Rattle.std.specs.Prelude.{◌≡◌, ◌++◌, ◌+◌, OnOk, IfOk, codes, decimal, map, true, if◌then◌else◌};
+ghost use Rattle.zm_logic.specs.View.{form_tree};
+ghost use Rattle.search.specs.View.{tree_of, cause_of, valued_tree};
+ghost use Rattle.zenon_modulo.specs.Text as spec;
 
 use itoa::Buffer;
-use std::alloc::AllocError;
+use search::{Closed, Open, Tableau, Valued, Why};
+use std::alloc::{AllocError, Global};
+use zm_logic::{Form, Symbol};
 
 // A number with what stands before it.
 fn push_pick(text: &mut Vec<u8>, is_first: bool, pick: usize) -> Result<(), AllocError>
@@ -14,12 +18,79 @@ fn push_pick(text: &mut Vec<u8>, is_first: bool, pick: usize) -> Result<(), Allo
     Ok(())
 }
 
-/// Puts picks at the end of a text: a space and the numbers with commas between them, or nothing where there is none.
-pub fn push_picks(text: &mut Vec<u8>, picks: &[usize]) -> Result<(), AllocError>
-    ensures { OnOk result (text.new.items ≡ text.old.items ++ picks_text picks.now) }
+// A space and the picks with commas between them, or nothing where there is none.
+fn push_picks(text: &mut Vec<u8>, picks: &[usize]) -> Result<(), AllocError>
+    ensures { OnOk result (text.new.items ≡ text.old.items ++ spec.picks_text picks.now) }
 {
     for (i, pick) in picks.iter().enumerate() {
         push_pick(text, i == 0, *pick)?;
     }
     Ok(())
+}
+
+/// What is written for a closed tableau.
+pub fn proved_text(alloc: Global, tableau: &Tableau<Closed>) -> Result<Vec<u8>, AllocError>
+    ensures { IfOk result (λ text. text.items ≡ spec.proved_text (tree_of tableau.now)) }
+{
+    let picks = tableau.picks(alloc)?;
+    let mut text = Vec::from_slice(alloc, b"(; proved ;)\n(; picks:")?;
+    push_picks(&mut text, picks.as_slice())?;
+    text.extend_from_slice(b" ;)\n")?;
+    Ok(text)
+}
+
+fn cause_text(why: Why) -> &'static [u8]
+    ensures { result.now ≡ spec.cause_text (cause_of why) }
+{
+    match why {
+        Why::Saturated => b"saturated",
+        Why::Steps => b"steps",
+        Why::BranchLength => b"branch length",
+    }
+}
+
+/// What is written for a search that stopped.
+pub fn unknown_text(alloc: Global, why: Why, tableau: &Tableau<Open>) -> Result<Vec<u8>, AllocError>
+    ensures { IfOk result (λ text. text.items ≡ spec.unknown_text (cause_of why) (tree_of tableau.now)) }
+{
+    let picks = tableau.picks(alloc)?;
+    let mut text = Vec::from_slice(alloc, b"unknown: ")?;
+    text.extend_from_slice(cause_text(why))?;
+    text.extend_from_slice(b"\npicks:")?;
+    push_picks(&mut text, picks.as_slice())?;
+    text.extend_from_slice(b"\n")?;
+    Ok(text)
+}
+
+fn push_atom(text: &mut Vec<u8>, symbols: &[Symbol], atom: &Form) -> Result<(), AllocError>
+    ensures { OnOk result (text.new.items ≡ text.old.items ++ spec.atom_text (map (λ s. s.name) symbols.now) (form_tree atom.now)) }
+{
+    if let Form::Atom(symbol, _, _) = atom {
+        if let Some(symbol) = symbols.get((symbol.0 as usize).saturating_sub(1)) {
+            text.extend_from_slice(symbol.name.text().as_bytes())?;
+        }
+    }
+    Ok(())
+}
+
+fn truth_text(truth: bool) -> &'static [u8]
+    ensures { result.now ≡ spec.truth_text truth }
+{
+    if truth { b" = true\n" } else { b" = false\n" }
+}
+
+/// What is written for a valuation of atoms over these symbols.
+pub fn falsified_text(
+    alloc: Global,
+    symbols: &[Symbol],
+    valuation: &[Valued],
+) -> Result<Vec<u8>, AllocError>
+    ensures { IfOk result (λ text. text.items ≡ codes "falsified\n" ++ spec.valuation_text (map (λ s. s.name) symbols.now) (map valued_tree valuation.now)) }
+{
+    let mut text = Vec::from_slice(alloc, b"falsified\n")?;
+    for valued in valuation {
+        push_atom(&mut text, symbols, &valued.atom)?;
+        text.extend_from_slice(truth_text(valued.truth))?;
+    }
+    Ok(text)
 }

@@ -1,0 +1,15 @@
+pub mod Sames
+pub mod Lists
+pub mod Loops
+pub mod Sources
+pub mod Offered
+pub mod Derived
+pub mod Unclosed
+pub mod Saturated
+pub mod Falsified
+pub mod Places
+pub mod Parts
+pub mod Growing
+pub mod Found
+pub mod Entered
+pub mod Ground

@@ -1,0 +1,10 @@
+pub mod Propositional
+pub mod Branch
+pub mod RawOffers
+pub mod Offers
+pub mod Tableau
+pub mod Stopping
+pub mod Valuation
+pub mod View
+pub mod Grown
+pub mod Searched

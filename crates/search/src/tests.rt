@@ -1,0 +1,147 @@
+ghost use Rattle.std.specs.Prelude.{IfOk};
+ghost use Rattle.zm_logic.specs.View.{form_tree, problem_tree};
+ghost use Rattle.search.specs.Propositional.{IsPropositional, IsPropositionalProblem};
+
+use crate::node::Why;
+use crate::run::{Searched, search};
+use crate::valued::valuation_of;
+use sqlite_items::{Boxed, Items};
+use std::alloc::{AllocError, Global};
+use std::test::Fail;
+use zm_logic::{Form, Premise, Problem, Role, SymId, Text};
+
+type Formula = Result<Boxed<Form>, AllocError>;
+
+fn letter(alloc: Global, number: u32) -> Formula
+    ensures { IfOk result (λ f. IsPropositional (form_tree f)) }
+{
+    let atom = Form::Atom(SymId(number), Items::new(alloc), Items::new(alloc));
+    Boxed::new(alloc, atom)
+}
+
+fn not(alloc: Global, f: Boxed<Form>) -> Formula
+    requires { IsPropositional (form_tree f) }
+    ensures { IfOk result (λ h. IsPropositional (form_tree h)) }
+{
+    Boxed::new(alloc, Form::Not(f))
+}
+
+fn and(alloc: Global, f: Boxed<Form>, g: Boxed<Form>) -> Formula
+    requires left { IsPropositional (form_tree f) }
+    requires right { IsPropositional (form_tree g) }
+    ensures { IfOk result (λ h. IsPropositional (form_tree h)) }
+{
+    Boxed::new(alloc, Form::And(f, g))
+}
+
+fn or(alloc: Global, f: Boxed<Form>, g: Boxed<Form>) -> Formula
+    requires left { IsPropositional (form_tree f) }
+    requires right { IsPropositional (form_tree g) }
+    ensures { IfOk result (λ h. IsPropositional (form_tree h)) }
+{
+    Boxed::new(alloc, Form::Or(f, g))
+}
+
+fn implies(alloc: Global, f: Boxed<Form>, g: Boxed<Form>) -> Formula
+    requires left { IsPropositional (form_tree f) }
+    requires right { IsPropositional (form_tree g) }
+    ensures { IfOk result (λ h. IsPropositional (form_tree h)) }
+{
+    Boxed::new(alloc, Form::Imp(f, g))
+}
+
+fn iff(alloc: Global, f: Boxed<Form>, g: Boxed<Form>) -> Formula
+    requires left { IsPropositional (form_tree f) }
+    requires right { IsPropositional (form_tree g) }
+    ensures { IfOk result (λ h. IsPropositional (form_tree h)) }
+{
+    Boxed::new(alloc, Form::Iff(f, g))
+}
+
+fn goal(alloc: Global, conjecture: Boxed<Form>) -> Problem
+    requires { IsPropositional (form_tree conjecture) }
+    ensures { IsPropositionalProblem (problem_tree result) }
+{
+    Problem {
+        symbols: Items::new(alloc),
+        premises: Items::new(alloc),
+        conjecture: conjecture.into_inner(),
+    }
+}
+
+/// The problem with this premise alone and a false conjecture.
+fn premise(alloc: Global, form: Boxed<Form>) -> Result<Problem, AllocError>
+    requires { IsPropositional (form_tree form) }
+    ensures { IfOk result (λ p. IsPropositionalProblem (problem_tree p)) }
+{
+    let name = Text::of(alloc, "a")?;
+    let role = Role::Axiom;
+    let mut premises = Items::new(alloc);
+    premises.push(Premise {
+        name,
+        role,
+        form: form.into_inner(),
+    })?;
+    Ok(Problem {
+        symbols: Items::new(alloc),
+        premises,
+        conjecture: Form::False,
+    })
+}
+
+/// How a search ends: with so many Steps, or stopped.
+#[derive(Clone, Copy, Debug, PartialEq, Eq)]
+enum Ending {
+    Closed(usize),
+    Open(Why),
+}
+
+fn outcome(alloc: Global, problem: &Problem, steps: u32) -> Result<Ending, AllocError>
+    requires { IsPropositionalProblem (problem_tree problem.now) }
+{
+    Ok(match search(alloc, problem, steps)? {
+        Searched::Closed(tableau) => Ending::Closed(tableau.picks(alloc)?.len()),
+        Searched::Open(_, why) => Ending::Open(why),
+    })
+}
+
+#[test]
+fn closes_what_is_valid(rt: HostRuntime) -> Result<(), Fail> {
+    let alloc = rt.alloc();
+    let p = letter(alloc, 1)?;
+    let p_implies_q = implies(alloc, letter(alloc, 1)?, letter(alloc, 2)?)?;
+    let antecedent = implies(alloc, p_implies_q, p)?;
+    let peirce = goal(alloc, implies(alloc, antecedent, letter(alloc, 1)?)?);
+    assert_eq!(rt; outcome(alloc, &peirce, 100)?, Ending::Closed(3));
+    let left = and(alloc, letter(alloc, 1)?, letter(alloc, 2)?)?;
+    let right = and(alloc, letter(alloc, 2)?, letter(alloc, 1)?)?;
+    let turned = goal(alloc, implies(alloc, left, right)?);
+    assert_eq!(rt; outcome(alloc, &turned, 3)?, Ending::Closed(3));
+    assert_eq!(rt; outcome(alloc, &turned, 2)?, Ending::Open(Why::Steps));
+    assert_eq!(rt; outcome(alloc, &turned, 0)?, Ending::Open(Why::Steps));
+    let absurd = and(alloc, letter(alloc, 1)?, not(alloc, letter(alloc, 1)?)?)?;
+    let absurd = premise(alloc, absurd)?;
+    assert_eq!(rt; outcome(alloc, &absurd, 100)?, Ending::Closed(1));
+    let same = goal(alloc, iff(alloc, letter(alloc, 1)?, letter(alloc, 1)?)?);
+    assert_eq!(rt; outcome(alloc, &same, 100)?, Ending::Closed(1));
+    Ok(())
+}
+
+#[test]
+fn falsifies_what_is_not(rt: HostRuntime) -> Result<(), Fail> {
+    let alloc = rt.alloc();
+    let either = goal(alloc, or(alloc, letter(alloc, 1)?, letter(alloc, 2)?)?);
+    match search(alloc, &either, 100)? {
+        Searched::Open(tableau, Why::Saturated) => {
+            let valuation = valuation_of(alloc, &tableau, &either)?;
+            assert_eq!(rt; valuation.len(), 2);
+            for valued in valuation.as_slice() {
+                assert!(rt; !valued.truth);
+            }
+        }
+        _ => assert!(rt; false, "not saturated"),
+    }
+    let nothing = goal(alloc, Boxed::new(alloc, Form::False)?);
+    assert_eq!(rt; outcome(alloc, &nothing, 0)?, Ending::Open(Why::Saturated));
+    Ok(())
+}

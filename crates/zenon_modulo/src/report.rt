@@ -1,0 +1,114 @@
+ghost use Rattle.std.specs.Prelude.{◌≡◌, ◌≢◌, map, IfOk};
+ghost use Rattle.zm_logic.specs.View.{problem_tree};
+ghost use Rattle.search.specs.Propositional.{IsPropositionalProblem};
+ghost use Rattle.search.specs.Stopping.{Cause};
+ghost use Rattle.search.specs.View.{tree_of, cause_of, valued_tree};
+ghost use Rattle.zenon_modulo.specs.Answer.{IsCountermodel};
+ghost use Rattle.zenon_modulo.specs.Report.{IsClosedFor, IsStoppedFor, IsFoundFor, IsReport};
+ghost use Rattle.zenon_modulo.specs.Text.{falsified_text as spec_falsified_text};
+
+use crate::outcome::Outcome;
+use crate::text::{falsified_text, proved_text, unknown_text};
+use search::{Closed, Open, Searched, Tableau, Valuation, Why, valuation_of};
+use std::alloc::{AllocError, Global};
+use zm_logic::Problem;
+
+/// An answer, and what is written for it to the sink for results.
+#[derive(Drop)]
+pub struct Answer {
+    pub outcome: Outcome,
+    pub text: Vec<u8>,
+}
+
+fn report_proved(
+    alloc: Global,
+    problem: &Problem,
+    tableau: Tableau<Closed>,
+) -> Result<Answer, AllocError>
+    requires { IsClosedFor (problem_tree problem.now) (tree_of tableau) }
+    ensures { IfOk result (λ a. IsReport (problem_tree problem.now) a.outcome a.text.items) }
+{
+    let text = proved_text(alloc, &tableau)?;
+    let outcome = Outcome::Proved { tableau };
+    Ok(Answer { outcome, text })
+}
+
+// The valuation of the current branch, with its text.
+#[derive(Drop)]
+struct Countermodel {
+    valuation: Valuation,
+    text: Vec<u8>,
+}
+
+fn countermodel_of(
+    alloc: Global,
+    problem: &Problem,
+    tableau: &Tableau<Open>,
+) -> Result<Countermodel, AllocError>
+    requires propositional { IsPropositionalProblem (problem_tree problem.now) }
+    requires saturated { IsStoppedFor (problem_tree problem.now) Cause.saturated (tree_of tableau.now) }
+    ensures valuation { IfOk result (λ m. IsCountermodel (problem_tree problem.now) (map valued_tree m.valuation) (tree_of tableau.now)) }
+    ensures text { IfOk result (λ m. m.text.items ≡ spec_falsified_text (problem_tree problem.now) (map valued_tree m.valuation)) }
+{
+    let valuation = valuation_of(alloc, tableau, problem)?;
+    let text = falsified_text(alloc, problem.symbols.as_slice(), valuation.as_slice())?;
+    Ok(Countermodel { valuation, text })
+}
+
+fn report_falsified(
+    alloc: Global,
+    problem: &Problem,
+    tableau: Tableau<Open>,
+) -> Result<Answer, AllocError>
+    requires propositional { IsPropositionalProblem (problem_tree problem.now) }
+    requires saturated { IsStoppedFor (problem_tree problem.now) Cause.saturated (tree_of tableau) }
+    ensures { IfOk result (λ a. IsReport (problem_tree problem.now) a.outcome a.text.items) }
+{
+    let Countermodel { valuation, text } = countermodel_of(alloc, problem, &tableau)?;
+    let outcome = Outcome::Falsified { valuation, tableau };
+    Ok(Answer { outcome, text })
+}
+
+fn report_unknown(
+    alloc: Global,
+    problem: &Problem,
+    why: Why,
+    tableau: Tableau<Open>,
+) -> Result<Answer, AllocError>
+    requires stopped { IsStoppedFor (problem_tree problem.now) (cause_of why) (tree_of tableau) }
+    requires unsaturated { cause_of why ≢ Cause.saturated }
+    ensures { IfOk result (λ a. IsReport (problem_tree problem.now) a.outcome a.text.items) }
+{
+    let text = unknown_text(alloc, why, &tableau)?;
+    let outcome = Outcome::Unknown { why, tableau };
+    Ok(Answer { outcome, text })
+}
+
+fn report_open(
+    alloc: Global,
+    problem: &Problem,
+    tableau: Tableau<Open>,
+    why: Why,
+) -> Result<Answer, AllocError>
+    requires propositional { IsPropositionalProblem (problem_tree problem.now) }
+    requires stopped { IsStoppedFor (problem_tree problem.now) (cause_of why) (tree_of tableau) }
+    ensures { IfOk result (λ a. IsReport (problem_tree problem.now) a.outcome a.text.items) }
+{
+    match why {
+        Why::Saturated => report_falsified(alloc, problem, tableau),
+        Why::Steps => report_unknown(alloc, problem, Why::Steps, tableau),
+        Why::BranchLength => report_unknown(alloc, problem, Why::BranchLength, tableau),
+    }
+}
+
+/// What is answered to a search.
+pub fn report(alloc: Global, problem: &Problem, searched: Searched) -> Result<Answer, AllocError>
+    requires propositional { IsPropositionalProblem (problem_tree problem.now) }
+    requires searched { IsFoundFor (problem_tree problem.now) searched }
+    ensures { IfOk result (λ a. IsReport (problem_tree problem.now) a.outcome a.text.items) }
+{
+    match searched {
+        Searched::Closed(tableau) => report_proved(alloc, problem, tableau),
+        Searched::Open(tableau, why) => report_open(alloc, problem, tableau, why),
+    }
+}
