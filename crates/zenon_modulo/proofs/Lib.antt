@@ -7,3 +7,4 @@ pub mod NameCounts
 pub mod Spelled
 pub mod SymbolNames
 pub mod Answered
+pub mod OneReading

@@ -4,6 +4,7 @@ use Rattle.zm_logic.specs.Tree.{Problem}
 use Rattle.zm_logic.specs.Calculus.{Derives}
 use Rattle.zm_logic.specs.Truth.{Valued, Falsifies, refuted}
 use Rattle.zm_base.specs.Outside.{Rose, AtEnd, ReadsAtMost}
+use Rattle.search.specs.Propositional.{IsPropositionalProblem}
 use Rattle.search.specs.Tableau.{Node, Leaf, IsTableau, root, is_finished, count, picks, current}
 use Rattle.search.specs.Stopping.{Cause, Stopped}
 use Rattle.search.specs.Valuation.{valuation}
@@ -33,8 +34,10 @@ pub record IsProof (p : Problem) (tree : Node) : Type 0 where
   pub within : count tree ≤ step_budget
   pub derivation : Derives p.symbols [] (refuted p)
 
--- Falsified: the valuation of the current branch, on which no Step is left, makes every premise true and the conjecture false.
+-- Falsified: the problem has no quantifier and no equality, and the valuation of the current branch, on which no Step is
+-- left, makes every premise true and the conjecture false.
 pub record IsCountermodel (p : Problem) (v : List Valued) (tree : Node) : Type 0 where
+  pub propositional : IsPropositionalProblem p
   pub tableau : IsTableau (root p) tree
   pub within : count tree ≤ step_budget
   pub stopped : Stopped (root p) step_budget tree Cause.saturated

@@ -6,3 +6,4 @@ pub mod Outcome
 pub mod Answer
 pub mod Report
 pub mod Writing
+pub mod Laws
