@@ -1,14 +1,14 @@
 -- A lawful tableau without an Open leaf gives a derivation.
-use Rattle.std.proofs.Common.{◌≡◌, ℕ, Bool, true, false, cond, refl, ap, sym, subst, ◌∙◌, List, [], ◌∷◌, ◌++◌, ◌⊎◌, inl, inr, Contains, Option, None, Some, map}
+use Rattle.std.proofs.Common.{◌≡◌, true, false, refl, ap, sym, subst, List, [], ◌∷◌, ◌++◌, inl, inr, Contains, Some, map}
 use Rattle.std.proofs.lemmas.List.Elements.{Contains-append_left, Contains-append_right, Contains-append_cases}
-use Rattle.zm_logic.specs.Tree.{Ty, Term, Form, Connective, Rule, Symbol, Problem}
+use Rattle.zm_logic.specs.Tree.{Term, Form, Connective, Rule, Symbol, Problem}
 use Rattle.zm_logic.specs.Same.{same, same_type, same_term}
 use Rattle.zm_logic.specs.Truth.{refuted}
 use Rattle.zm_logic.specs.Calculus.{Derives}
-use Rattle.search.specs.Branch.{Closing, extend, closing, closes_alone, closing_of, is_swapped}
-use Rattle.search.specs.RawOffers.{Raw, Placed, on, split, split_kind, split_offers, own_offers, pair_offers, raw_offers}
-use Rattle.search.specs.Offers.{Child, Offer, make, make_children, normals, offers, is_useful}
-use Rattle.search.specs.Tableau.{Node, Children, IsOfferAt, IsLawful, AreLawful, given, root, is_finished, are_finished, is_skipped}
+use Rattle.search.specs.Branch.{Closing, extend, closes_alone, closing_of, is_swapped}
+use Rattle.search.specs.RawOffers.{Raw, Placed, on, split, split_kind, split_offers, raw_offers}
+use Rattle.search.specs.Offers.{Child, Offer, make, normals, offers, is_useful}
+use Rattle.search.specs.Tableau.{Node, Children, IsLawful, AreLawful, given, root, is_finished, are_finished, is_skipped}
 use Rattle.search.proofs.Lists.{cond-cases, get-contains, filter-kept, map-source}
 use Rattle.search.proofs.Offered.{normals_made}
 use Rattle.search.proofs.Sames.{Contains-none, same-true, same_type-true, same_term-true, both_true, only}

@@ -1,5 +1,5 @@
 -- The current branch of a tree, and the atoms of a problem, part by part.
-use Rattle.std.proofs.Common.{◌≡◌, ℕ, ◌+◌, ◌<◌, Bool, refl, ap, sym, subst, ◌∙◌, List, [], ◌∷◌, ◌++◌, ◌⊎◌, inl, inr, map, take, length, get_or, flat_map, append-nil}
+use Rattle.std.proofs.Common.{◌≡◌, ℕ, ◌+◌, ◌<◌, Bool, ap, sym, subst, ◌∙◌, List, [], ◌∷◌, ◌++◌, ◌⊎◌, inl, inr, map, take, length, get_or, flat_map, append-nil}
 use Rattle.std.proofs.lemmas.Grind.{flat_map-append}
 use Rattle.zm_logic.specs.Tree as tree
 use Rattle.zm_logic.specs.View.{form_tree, premise_tree, step_of_form}

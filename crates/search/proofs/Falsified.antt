@@ -1,16 +1,16 @@
 -- A saturated branch falsifies the problem.
-use Rattle.std.proofs.Common.{◌≡◌, ℕ, ◌+◌, Bool, true, false, not, cond, refl, ap, sym, subst, ◌∙◌, List, [], ◌∷◌, ◌++◌, ◌⊎◌, inl, inr, Contains, All, map, flat_map, Option, None, Some}
+use Rattle.std.proofs.Common.{◌≡◌, ℕ, ◌+◌, Bool, true, false, not, cond, refl, ap, sym, subst, ◌∙◌, List, [], ◌∷◌, inl, inr, Contains, map, flat_map, Option, None, Some}
 use Rattle.std.proofs.lemmas.List.Elements.{All-weaker, All-contains_itself, All-contains, Contains-append_left, Contains-append_right}
 use Rattle.zm_logic.specs.Tree.{Form, Problem, Premise}
 use Rattle.zm_logic.specs.Same.{same, has}
-use Rattle.zm_logic.specs.Truth.{IsQuantifierFree, truth_of, connected, Valued, value_of, Falsifies, refuted}
+use Rattle.zm_logic.specs.Truth.{IsQuantifierFree, truth_of, connected, value_of, Falsifies, refuted}
 use Rattle.search.specs.Propositional.{IsPropositional, IsPropositionalProblem}
 use Rattle.search.specs.Branch.{extend, closing}
 use Rattle.search.specs.Offers.{offers}
 use Rattle.search.specs.Tableau.{Node, Children, Leaf, current, current_of, root}
 use Rattle.search.specs.Valuation.{atoms, formulas, problem_atoms, value_on, valuation}
 use Rattle.search.proofs.Lists.{or-cases, map-there}
-use Rattle.search.proofs.Sames.{Contains-here, Contains-there, Contains-cases, Contains-none, same-self, same-true}
+use Rattle.search.proofs.Sames.{Contains-here, Contains-cases, Contains-none, same-self, same-true}
 use Rattle.search.proofs.Sources.{extend-keeps, extend-has}
 use Rattle.search.proofs.Saturated.{agrees}
 

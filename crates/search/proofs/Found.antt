@@ -1,5 +1,5 @@
 -- From what was grown to what is answered.
-use Rattle.std.proofs.Common.{◌≡◌, ℕ, ◌+◌, ◌≤◌, ◌<◌, Bool, true, false, List, arith, Option, None, Some}
+use Rattle.std.proofs.Common.{◌≡◌, ℕ, ◌+◌, List, arith, Option, Some}
 use Rattle.zm_logic.specs.Tree.{Form, Problem}
 use Rattle.search.specs.Propositional.{IsPropositionalProblem}
 use Rattle.search.specs.Tableau.{Node, Leaf, root, IsTableau, count}

@@ -1,7 +1,7 @@
 -- How a tableau grows, child by child.
-use Rattle.std.proofs.Common.{◌≡◌, ℕ, ◌+◌, ◌<◌, ◌≤◌, max, refl, ap, sym, subst, ◌∙◌, List, [], ◌∷◌, ◌++◌, arith, Bool, true, false, ◌&&◌, Option, None, Some, All, slice_get, append_assoc, append-nil, map, take, length, get_or}
+use Rattle.std.proofs.Common.{◌≡◌, ℕ, ◌+◌, ◌<◌, max, refl, ap, sym, subst, ◌∙◌, List, [], ◌∷◌, ◌++◌, arith, Bool, true, false, ◌&&◌, Option, None, Some, All, append_assoc, append-nil, map, take, length, get_or}
 use Rattle.std.specs.Option.{option_or}
-use Rattle.std.proofs.lemmas.List.Elements.{All-append, All-cons, All-nil}
+use Rattle.std.proofs.lemmas.List.Elements.{All-append, All-cons}
 use Rattle.zm_logic.specs.Tree.{Form}
 use Rattle.search.proofs.Sames.{both_true, and_true}
 use Rattle.search.specs.Branch.{extend, closing}
@@ -17,7 +17,7 @@ use Rattle.search.specs.declared.node.Why.{Why}
 use Rattle.zm_logic.specs.declared.tree.Form.{Form as Code}
 use Rattle.zm_logic.specs.View.{form_tree}
 use Rattle.std.proofs.lemmas.List.{take_more, map-append}
-use Rattle.search.specs.Grown.{IsGrown, AreGrown, IsNext, Ends, Halts, HaltsAt}
+use Rattle.search.specs.Grown.{IsGrown, AreGrown, IsNext, Ends, Halts}
 
 abbrev pub push : List ChildTree → List Form → Node → Children
 push cs f n = children_of (cs ++ bringing f n ∷ [])

@@ -13,3 +13,5 @@ pub mod Growing
 pub mod Found
 pub mod Entered
 pub mod Ground
+pub mod Load
+pub mod Bound

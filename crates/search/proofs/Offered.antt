@@ -1,12 +1,12 @@
 -- The first offer of a branch, found formula by formula.
-use Rattle.std.proofs.Common.{◌≡◌, ℕ, zero, suc, ◌+◌, ◌<◌, ◌≤◌, Bool, true, false, not, cond, refl, ap, sym, subst, ◌∙◌, List, [], ◌∷◌, ◌++◌, ◌⊎◌, inl, inr, Option, None, Some, map, filter, length, take, drop, get_or, slice_get, append-nil, arith}
-use Rattle.std.proofs.lemmas.List.{map-append, take_more}
+use Rattle.std.proofs.Common.{◌≡◌, ℕ, ◌+◌, ◌<◌, ◌≤◌, true, false, refl, ap, sym, ◌∙◌, List, [], ◌∷◌, ◌++◌, ◌⊎◌, inl, inr, None, map, filter, length, take, drop, get_or, slice_get, append-nil, arith}
+use Rattle.std.proofs.lemmas.List.{map-append}
 use Rattle.std.proofs.lemmas.List.Elements.{filter-append}
 use Rattle.zm_logic.specs.Tree.{Form}
 use Rattle.zm_logic.specs.declared.tree.Form.{Form as Code}
 use Rattle.zm_logic.specs.View.{form_tree}
-use Rattle.search.specs.RawOffers.{Kind, Act, Raw, Placed, on, split, split_kind, split_offers, own_offers, placed, pairs_with, offers_at, raw_from}
-use Rattle.search.specs.Offers.{Child, Offer, make, made, make_children, normals, has_some, is_useful, offers}
+use Rattle.search.specs.RawOffers.{Kind, Act, Raw, on, split, split_kind, split_offers, own_offers, placed, pairs_with, raw_from}
+use Rattle.search.specs.Offers.{Offer, make, made, make_children, normals, has_some, is_useful, offers}
 use Rattle.search.specs.Tableau.{IsOfferAt}
 use Rattle.search.specs.View.{forms_trees}
 use Rattle.search.proofs.Loops.{front, rest}

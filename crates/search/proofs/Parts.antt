@@ -1,6 +1,6 @@
 -- A child of a list of children, and the picks of such a list.
-use Rattle.std.proofs.Common.{◌≡◌, ℕ, ◌+◌, ◌<◌, ap, sym, ◌∙◌, List, [], ◌∷◌, ◌++◌, map, take, drop, length, get_or, append_assoc, append-nil}
-use Rattle.search.specs.Tableau.{Node, Children, picks, picks_all}
+use Rattle.std.proofs.Common.{◌≡◌, ℕ, ◌+◌, ◌<◌, ap, sym, ◌∙◌, List, [], ◌∷◌, ◌++◌, map, take, length, get_or, append_assoc, append-nil}
+use Rattle.search.specs.Tableau.{Node, picks, picks_all}
 use Rattle.search.specs.View.{ChildTree, children_of, children_tree, child_tree, node_tree, step_of_node, step_of_child}
 use Rattle.search.specs.declared.node.Child.{Child}
 use Rattle.search.specs.declared.node.Node.TheFolds.{fold-roll-Child}

@@ -1,11 +1,11 @@
 -- What closes a branch that grew.
-use Rattle.std.proofs.Common.{◌≡◌, ℕ, ◌+◌, refl, ap, sym, ◌∙◌, List, [], ◌∷◌, ◌++◌, Option, None, Some, map, take, drop, length, append_assoc, append-nil}
+use Rattle.std.proofs.Common.{◌≡◌, refl, ap, sym, ◌∙◌, List, [], ◌∷◌, ◌++◌, Option, None, Some, map, take, drop, length, append_assoc, append-nil}
 use Rattle.std.specs.Option.{option_or}
 use Rattle.std.proofs.lemmas.List.{map-append, take-append-drop}
 use Rattle.zm_logic.specs.Tree.{Form}
 use Rattle.zm_logic.specs.declared.tree.Form.{Form as Code}
 use Rattle.zm_logic.specs.View.{form_tree}
-use Rattle.search.specs.Branch.{Closing, closing, closing_at, closing_from}
+use Rattle.search.specs.Branch.{closing, closing_at, closing_from}
 
 or_assoc : {A : Type 0} (a b c : Option A) → option_or a (option_or b c) ≡ option_or (option_or a b) c
 or_assoc None b c = refl

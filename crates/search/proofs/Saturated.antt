@@ -1,11 +1,11 @@
 -- A branch that isn't closed and has no offers makes all its formulas true.
-use Rattle.std.proofs.Common.{◌≡◌, ℕ, Bool, true, false, ◌&&◌, ◌||◌, not, refl, ap, sym, subst, ◌∙◌, List, [], ◌∷◌, ◌⊎◌, inl, inr, Contains, Option, None, map}
+use Rattle.std.proofs.Common.{◌≡◌, Bool, true, false, ◌&&◌, ◌||◌, not, refl, ap, sym, ◌∙◌, List, [], ◌∷◌, ◌⊎◌, inl, inr, Contains, None, map}
 use Rattle.zm_logic.specs.Tree.{Form, Connective, both, either, implies, iff}
 use Rattle.zm_logic.specs.Same.{has}
-use Rattle.zm_logic.specs.Truth.{truth_of, connected, IsQuantifierFree}
+use Rattle.zm_logic.specs.Truth.{truth_of, IsQuantifierFree}
 use Rattle.search.specs.Branch.{closing}
-use Rattle.search.specs.RawOffers.{Kind, Raw, Placed, on, one, two, split, split_kind, raw_offers}
-use Rattle.search.specs.Offers.{Offer, make, make_children, normals, is_useful, offers, has_all, has_some}
+use Rattle.search.specs.RawOffers.{Raw, Placed, on, one, two, split, split_kind, raw_offers}
+use Rattle.search.specs.Offers.{make, is_useful, offers, has_all, has_some}
 use Rattle.search.proofs.Lists.{filter-none, map-there}
 use Rattle.search.proofs.Offered.{normals_made}
 use Rattle.search.proofs.Sames.{Contains-here, has-contains, contains-has, both_true, either_true}

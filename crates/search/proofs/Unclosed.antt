@@ -1,11 +1,11 @@
 -- A branch that isn't closed holds no formula with its negation.
-use Rattle.std.proofs.Common.{◌≡◌, ℕ, zero, suc, Bool, true, false, ◌&&◌, cond, not, refl, ap, sym, subst, ◌∙◌, List, [], ◌∷◌, ◌++◌, ◌⊎◌, inl, inr, Contains, arith, Option, None, Some, append_assoc}
-use Rattle.std.proofs.lemmas.List.Elements.{Contains-append_left, Contains-append_right, Contains-push}
-use Rattle.search.proofs.Sames.{Contains-here, Contains-there, Contains-cases, Contains-none, same-self}
+use Rattle.std.proofs.Common.{◌≡◌, Bool, true, false, cond, not, refl, ap, sym, subst, ◌∙◌, List, [], ◌∷◌, ◌++◌, ◌⊎◌, inl, inr, Contains, None, Some}
+use Rattle.std.proofs.lemmas.List.Elements.{Contains-append_left, Contains-push}
+use Rattle.search.proofs.Sames.{Contains-cases, Contains-none, same-self}
 use Rattle.zm_logic.specs.Tree.{Form}
 use Rattle.zm_logic.specs.Same.{same}
 use Rattle.zm_logic.specs.Truth.{truth_of}
-use Rattle.search.specs.Branch.{Closing, closing, closing_of, closing_with, closing_at, closing_from, closes_alone, is_swapped, pair_of, alone}
+use Rattle.search.specs.Branch.{closing, closing_of, closing_with, closing_at, closing_from, closes_alone, is_swapped, pair_of, alone}
 use Rattle.search.proofs.Lists.{or-none}
 
 pub with-none : (gs : List Form) (f g : Form) → closing_with gs f ≡ None → Contains gs g → closing_of g f ≡ None

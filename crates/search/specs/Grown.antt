@@ -1,5 +1,5 @@
 -- What the search has made below a branch.
-use Rattle.std.specs.Prelude.{ℕ, ◌+◌, ◌≤◌, ◌<◌, Bool, true, false, ◌≡◌, ◌≢◌, List, [], ◌∷◌, Option, None, Some, All}
+use Rattle.std.specs.Prelude.{ℕ, ◌+◌, ◌≤◌, ◌<◌, Bool, true, false, ◌≡◌, ◌≢◌, List, [], Option, None, Some, All}
 use Rattle.zm_logic.specs.Tree.{Form}
 use Rattle.search.specs.Branch.{closing}
 use Rattle.search.specs.Offers.{offers}

@@ -8,3 +8,4 @@ pub mod Valuation
 pub mod View
 pub mod Grown
 pub mod Searched
+pub mod Need

@@ -45,3 +45,8 @@ WhereSaturated p tree Cause.branch_length = Unit {0}
 abbrev pub IsFalsified : Problem → Searched → Type 0
 IsFalsified p (Closed t) = Unit {0}
 IsFalsified p (Open t why) = WhereSaturated p (tree_of t) (cause_of why)
+
+-- a search that isn't cut short ends closed or saturated
+abbrev pub IsDecided : Searched → Type 0
+IsDecided (Closed t) = Unit {0}
+IsDecided (Open t why) = cause_of why ≡ Cause.saturated

@@ -1,5 +1,5 @@
 -- Why a search stops.
-use Rattle.std.specs.Prelude.{ℕ, ◌<◌, ◌≡◌, ◌≢◌, List, [], Option, None, Some}
+use Rattle.std.specs.Prelude.{ℕ, ◌<◌, ◌≡◌, ◌≢◌, List, [], None, Some}
 use Rattle.zm_logic.specs.Tree.{Form}
 use Rattle.search.specs.Branch.{closing}
 use Rattle.search.specs.Offers.{offers}

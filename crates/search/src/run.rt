@@ -1,8 +1,10 @@
 ghost use Rattle.std.specs.Prelude.{◌≡◌, ◌≤◌, IfOk, map, All};
 ghost use Rattle.zm_logic.specs.View.{problem_tree};
+ghost use Rattle.zm_logic.specs.Truth.{refuted};
+ghost use Rattle.search.specs.Need.{need, weights};
 ghost use Rattle.search.specs.Propositional.{IsPropositionalProblem};
 ghost use Rattle.search.specs.Tableau.{root, IsTableau, count, picks as spec_picks};
-ghost use Rattle.search.specs.Searched.{searched_tree, IsClosed, IsStopped, IsRefuted, IsFalsified};
+ghost use Rattle.search.specs.Searched.{searched_tree, IsClosed, IsStopped, IsRefuted, IsFalsified, IsDecided};
 
 use crate::branch::root_branch;
 use crate::growth::grow;
@@ -34,9 +36,10 @@ pub fn search(alloc: Global, problem: &Problem, steps: u32) -> Result<Searched, 
     ensures closed { IfOk result IsClosed }
     ensures stopped { IfOk result (IsStopped (problem_tree problem.now) steps) }
 
-    // What the answers mean.
+    // What the answers mean, and that one of them comes.
     ensures derivation { IfOk result (IsRefuted (problem_tree problem.now)) }
     ensures falsified { IfOk result (IsFalsified (problem_tree problem.now)) }
+    ensures decided { weights (refuted (problem_tree problem.now)) ≤ 512 → need (refuted (problem_tree problem.now)) ≤ steps → IfOk result IsDecided }
 {
     let mut branch = root_branch(alloc, problem)?;
     let mut left = steps;

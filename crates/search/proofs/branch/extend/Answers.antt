@@ -1,4 +1,4 @@
-use Rattle.std.proofs.Common.{◌≡◌, ◌∙◌, sym, ap, map}
+use Rattle.std.proofs.Common.{◌∙◌, sym, ap, map}
 use Rattle.zm_logic.specs.View.{form_tree}
 use Rattle.search.specs.Branch as spec
 use Rattle.search.proofs.Loops.{more_extended, take_kept}

@@ -1,9 +1,9 @@
-use Rattle.std.proofs.Common.{◌≡◌, ◌≤◌, map, length, take, drop, ℕ, List, [], ◌∷◌, ◌++◌, sym, ap, subst, ◌∙◌, rules, arith}
+use Rattle.std.proofs.Common.{◌≡◌, ◌≤◌, map, length, take, drop, ℕ, [], ◌∷◌, ◌++◌, sym, ap, subst, ◌∙◌, rules, arith}
 use Rattle.std.proofs.lemmas.List.{length-take}
 use Rattle.zm_logic.specs.View.{form_tree}
 use Rattle.search.specs.Branch.{extend, closing, closing_from}
-use Rattle.search.specs.Grown.{AreGrown, IsNext}
-use Rattle.search.specs.View.{node_tree, children_tree, cause, child_tree, bringing}
+use Rattle.search.specs.Grown.{IsNext}
+use Rattle.search.specs.View.{node_tree, cause, child_tree, bringing}
 use Rattle.search.specs.declared.node.Child.{Child}
 use Rattle.search.proofs.Growing.{child_is, grown_step, given_step}
 use Rattle.search.proofs.Places.{grown_closing}

@@ -1,4 +1,4 @@
-use Rattle.std.proofs.Common.{◌≡◌, ◌∙◌, sym, ap, map, subst, length, [], false, true, ◌⊎◌, inl, inr}
+use Rattle.std.proofs.Common.{◌≡◌, ◌∙◌, sym, ap, map, subst, [], false, true, ◌⊎◌, inl, inr}
 use Rattle.zm_logic.specs.View.{form_tree}
 use Rattle.search.specs.Offers as spec
 use Rattle.search.specs.Tableau.{IsOfferAt}

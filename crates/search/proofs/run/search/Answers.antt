@@ -1,9 +1,10 @@
-use Rattle.std.proofs.Common.{◌≡◌, ◌∙◌, sym, ap, map, subst, Option, None, Some, []}
-use Rattle.zm_logic.specs.View.{form_tree, problem_tree}
+use Rattle.std.proofs.Common.{sym, ap, subst, Option, None, Some, []}
+use Rattle.zm_logic.specs.View.{problem_tree}
 use Rattle.search.specs.Grown.{IsGrown}
 use Rattle.search.specs.Tableau.{Node, root}
 use Rattle.search.specs.Stopping.{Cause}
 use Rattle.search.specs.View.{node_tree, cause, cause_of}
+use Rattle.search.proofs.Bound.{complete}
 use Rattle.search.proofs.Derived.{root_derives}
 use Rattle.search.proofs.Found.{stopped, answered}
 use Rattle.search.proofs.run.search.Goals as goal
@@ -35,4 +36,17 @@ returns-clause-falsified c =
           let Q : Node → Type 0 = λ m. IsGrown (root p) 0 c.args.steps c.grow.new.left m (Some (cause_of w.in-Some.why)) in
           let g = subst Q (sym w.new-in-Some.ensures) (subst P (ap cause w.in-Some.is) grown) in
           answered p c.args.steps _ (cause_of w.in-Some.why) (stopped (root p) c.args.steps c.grow.new.left _ (cause_of w.in-Some.why) g) c.requires)
+    ]
+
+pub returns-clause-decided : goal.returns-clause-decided
+returns-clause-decided c w e =
+    let p = problem_tree c.args.problem.now in
+    let n = node_tree c.in_ok-grown.grown.node in
+    let grown : IsGrown (root p) 0 c.args.steps c.grow.new.left n (cause c.in_ok-grown.grown.why) = rw (← c.in_ok-branch.ensures) c.in_ok-grown.ensures.grown in
+    elim c.match-grown.branch [
+      | in-None m ↦ rw m.result-is tt
+      | in-Some m ↦ rw m.result-is (
+          let P : Option Cause → Type 0 = λ y. IsGrown (root p) 0 c.args.steps c.grow.new.left n y in
+          let g = subst P (ap cause m.in-Some.is) grown in
+          complete p c.args.steps n (cause_of m.in-Some.why) w e g.lawful (stopped (root p) c.args.steps c.grow.new.left n (cause_of m.in-Some.why) g))
     ]

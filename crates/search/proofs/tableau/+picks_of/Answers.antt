@@ -1,4 +1,4 @@
-use Rattle.std.proofs.Common.{◌≡◌, ◌∙◌, ◌++◌, sym, ap, take}
+use Rattle.std.proofs.Common.{◌∙◌, ◌++◌, sym, ap, take}
 use Rattle.search.specs.View.{children_tree}
 use Rattle.search.specs.Tableau as spec
 use Rattle.search.proofs.Parts.{more_picks}

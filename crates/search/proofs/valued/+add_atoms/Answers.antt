@@ -1,4 +1,4 @@
-use Rattle.std.proofs.Common.{◌≡◌, ◌∙◌, ◌++◌, sym, ap, map}
+use Rattle.std.proofs.Common.{◌∙◌, ◌++◌, ap, map}
 use Rattle.std.proofs.lemmas.Result.{IfOk-equal}
 use Rattle.zm_logic.specs.View.{form_tree}
 use Rattle.search.specs.Branch.{extend}

@@ -1,4 +1,4 @@
-use Rattle.std.proofs.Common.{◌≡◌, ℕ, map, subst, List}
+use Rattle.std.proofs.Common.{ℕ, map, subst, List}
 use Rattle.std.proofs.lemmas.Result.{IfOk-weaker}
 use Rattle.zm_logic.specs.View.{form_tree}
 use Rattle.search.specs.Grown.{IsEntered}

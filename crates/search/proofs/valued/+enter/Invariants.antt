@@ -1,4 +1,4 @@
-use Rattle.std.proofs.Common.{◌≡◌, ℕ, map, drop, length}
+use Rattle.std.proofs.Common.{◌≡◌, ℕ, map, drop}
 use Rattle.zm_logic.specs.View.{form_tree}
 use Rattle.search.specs.Tableau.{current_of}
 use Rattle.search.specs.View.{children_tree}
