@@ -16,7 +16,7 @@ use Rattle.search.proofs.Derived.{IsWithin, parts, parts_made, split-source}
 use Rattle.search.proofs.Falsified.{branch_or}
 use Rattle.search.proofs.Lists.{get-contains, filter-kept, or-cases, map-source}
 use Rattle.search.proofs.Load.{settled, load, spread, spread_but, times, load_falls, load_extend, spread_pos, spread_falls, spread_but_falls, spread_extend}
-use Rattle.search.proofs.Sames.{Contains-here, Contains-there, Contains-cases, Contains-none, contains-has, and_true, or_left, or_right}
+use Rattle.zm_logic.proofs.Sames.{Contains-here, Contains-there, Contains-cases, Contains-none, contains-has, and_true, or_left, or_right}
 use Rattle.search.proofs.Sources.{Source, raw-source, extend-keeps, extend-has}
 
 -- each child weighs less than the formula acted on, and the children come to no more branches

@@ -11,7 +11,7 @@ use Rattle.search.specs.Offers.{Child, Offer, make, normals, offers, is_useful}
 use Rattle.search.specs.Tableau.{Node, Children, IsLawful, AreLawful, given, root, is_finished, are_finished, is_skipped}
 use Rattle.search.proofs.Lists.{cond-cases, get-contains, filter-kept, map-source}
 use Rattle.search.proofs.Offered.{normals_made}
-use Rattle.search.proofs.Sames.{Contains-none, same-true, same_type-true, same_term-true, both_true, only}
+use Rattle.zm_logic.proofs.Sames.{Contains-none, same-true, same_type-true, same_term-true, both_true, only}
 use Rattle.search.proofs.Sources.{Source, Closes, raw-source, closing-source, extend-cases, extend-keeps, extend-has}
 
 -- each formula of the first list stands in the second

@@ -10,7 +10,7 @@ use Rattle.search.specs.Offers.{offers}
 use Rattle.search.specs.Tableau.{Node, Children, Leaf, current, current_of, root}
 use Rattle.search.specs.Valuation.{atoms, formulas, problem_atoms, value_on, valuation}
 use Rattle.search.proofs.Lists.{or-cases, map-there}
-use Rattle.search.proofs.Sames.{Contains-here, Contains-cases, Contains-none, same-self, same-true}
+use Rattle.zm_logic.proofs.Sames.{Contains-here, Contains-cases, Contains-none, same-self, same-true}
 use Rattle.search.proofs.Sources.{extend-keeps, extend-has}
 use Rattle.search.proofs.Saturated.{agrees}
 

@@ -11,7 +11,7 @@ use Rattle.search.specs.Propositional.{IsPropositional, IsPropositionalProblem}
 use Rattle.search.specs.Branch.{add, extend}
 use Rattle.search.specs.Valuation.{atoms, formulas, problem_atoms, value_on, valuation}
 use Rattle.search.proofs.Lists.{flat_map-source, map-source}
-use Rattle.search.proofs.Sames.{Contains-none, only, contains-has}
+use Rattle.zm_logic.proofs.Sames.{Contains-none, only, contains-has}
 use Rattle.search.proofs.Sources.{extend-cases}
 
 pub atom_is_ground : (f a : Form) → IsPropositional f → Contains (atoms f) a → IsGroundAtom a

@@ -3,7 +3,7 @@ use Rattle.std.proofs.Common.{◌≡◌, ℕ, ◌+◌, ◌<◌, max, refl, ap, s
 use Rattle.std.specs.Option.{option_or}
 use Rattle.std.proofs.lemmas.List.Elements.{All-append, All-cons}
 use Rattle.zm_logic.specs.Tree.{Form}
-use Rattle.search.proofs.Sames.{both_true, and_true}
+use Rattle.zm_logic.proofs.Sames.{both_true, and_true}
 use Rattle.search.specs.Branch.{extend, closing}
 use Rattle.search.specs.RawOffers.{Kind, Act}
 use Rattle.search.specs.Offers.{make_child, make_children}

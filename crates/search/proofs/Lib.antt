@@ -1,4 +1,3 @@
-pub mod Sames
 pub mod Lists
 pub mod Loops
 pub mod Sources

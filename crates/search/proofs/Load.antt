@@ -9,7 +9,7 @@ use Rattle.search.specs.Need.{weight, leaves_as, leaves, weights, all_leaves}
 use Rattle.search.specs.Offers.{has_all, has_some}
 use Rattle.search.specs.RawOffers.{split}
 use Rattle.search.proofs.Derived.{IsWithin}
-use Rattle.search.proofs.Sames.{Contains-cases, Contains-none, has-contains, contains-has, both_true, and_true, either_true, or_left, or_right, same-self, same-true}
+use Rattle.zm_logic.proofs.Sames.{Contains-cases, Contains-none, has-contains, contains-has, both_true, and_true, either_true, or_left, or_right, same-self, same-true}
 
 -- a formula is settled where some of its children stands on the branch
 abbrev pub settled : List Form → Form → Bool

@@ -8,7 +8,7 @@ use Rattle.search.specs.RawOffers.{Raw, Placed, on, one, two, split, split_kind,
 use Rattle.search.specs.Offers.{make, is_useful, offers, has_all, has_some}
 use Rattle.search.proofs.Lists.{filter-none, map-there}
 use Rattle.search.proofs.Offered.{normals_made}
-use Rattle.search.proofs.Sames.{Contains-here, has-contains, contains-has, both_true, either_true}
+use Rattle.zm_logic.proofs.Sames.{Contains-here, has-contains, contains-has, both_true, either_true}
 use Rattle.search.proofs.Sources.{own-raw}
 use Rattle.search.proofs.Unclosed.{unclosed-pair, unclosed-alone}
 

@@ -6,7 +6,7 @@ use Rattle.zm_logic.specs.Same.{has}
 use Rattle.search.specs.Branch.{Closing, add, extend, closes_alone, closing_of, closing_with, closing_at, closing_from, alone}
 use Rattle.search.specs.RawOffers.{Raw, Placed, own_offers, pair_offers, placed, pairs_with, offers_at, raw_from}
 use Rattle.search.proofs.Lists.{cond-cases, or-cases}
-use Rattle.search.proofs.Sames.{Contains-here, Contains-there, Contains-cases, Contains-none, has-contains}
+use Rattle.zm_logic.proofs.Sames.{Contains-here, Contains-there, Contains-cases, Contains-none, has-contains}
 
 -- A raw offer is the own offer of a formula of the branch, or that of a pair.
 pub data Source (b : List Form) (r : Raw) : Type 0 where

@@ -1,7 +1,7 @@
 -- A branch that isn't closed holds no formula with its negation.
 use Rattle.std.proofs.Common.{◌≡◌, Bool, true, false, cond, not, refl, ap, sym, subst, ◌∙◌, List, [], ◌∷◌, ◌++◌, ◌⊎◌, inl, inr, Contains, None, Some}
 use Rattle.std.proofs.lemmas.List.Elements.{Contains-append_left, Contains-push}
-use Rattle.search.proofs.Sames.{Contains-cases, Contains-none, same-self}
+use Rattle.zm_logic.proofs.Sames.{Contains-cases, Contains-none, same-self}
 use Rattle.zm_logic.specs.Tree.{Form}
 use Rattle.zm_logic.specs.Same.{same}
 use Rattle.zm_logic.specs.Truth.{truth_of}

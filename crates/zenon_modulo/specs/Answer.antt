@@ -7,6 +7,7 @@ use Rattle.zm_base.specs.Outside.{Rose, AtEnd, ReadsAtMost}
 use Rattle.search.specs.Propositional.{IsPropositionalProblem}
 use Rattle.search.specs.Tableau.{Node, Leaf, IsTableau, root, is_finished, count, picks, current}
 use Rattle.search.specs.Stopping.{Cause, Stopped}
+use Rattle.search.specs.Need.{weights, need}
 use Rattle.search.specs.Valuation.{valuation}
 use Rattle.zenon_modulo.specs.Words.{Word, IsCommand, IsMisuse}
 use Rattle.zenon_modulo.specs.Reading.{Spells}
@@ -46,12 +47,14 @@ pub record IsCountermodel (p : Problem) (v : List Valued) (tree : Node) : Type 0
   pub listed : v ≡ valuation leaf.branch p
   pub falsifies : Falsifies v p
 
--- Unknown: the search stopped at the current branch for the cause, which isn't that no Step was left to make there.
+-- Unknown: the search stopped at the current branch for the cause, which isn't that no Step was left to make there. The
+-- problem's weight is over 512, or it needs more Steps than the budget has.
 pub record IsUndecided (p : Problem) (why : Cause) (tree : Node) : Type 0 where
   pub tableau : IsTableau (root p) tree
   pub within : count tree ≤ step_budget
   pub stopped : Stopped (root p) step_budget tree why
   pub unsaturated : why ≢ Cause.saturated
+  pub beyond : weights (refuted p) ≤ 512 → need (refuted p) ≤ step_budget → ⊥
 
 -- no problem is spelled by the bytes, of which there are not too many
 abbrev pub IsNotBuilt : Option (List ℕ) → Type 0

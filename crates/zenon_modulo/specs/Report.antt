@@ -3,6 +3,8 @@ use Rattle.std.specs.Prelude.{ℕ, ◌≡◌, ◌≤◌, List, [], Option, All, 
 use Rattle.zm_logic.specs.Tree.{Problem}
 use Rattle.search.specs.Tableau.{Node, IsTableau, root, count, picks}
 use Rattle.search.specs.Stopping.{Cause, Stopped}
+use Rattle.search.specs.Need.{weights, need}
+use Rattle.zm_logic.specs.Truth.{refuted}
 use Rattle.search.specs.View.{tree_of, cause_of, valued_tree}
 use Rattle.search.specs.Searched.{WhereSaturated}
 use Rattle.search.specs.declared.run.Searched.{Searched}
@@ -20,12 +22,14 @@ pub record IsClosedFor (p : Problem) (tree : Node) : Type 0 where
   pub proof : IsProof p tree
   pub picked : All (λ k. k ≡ 0) (picks tree)
 
--- a search within the budget stopped for the cause; where no Step was left, the valuation of the branch falsifies the problem
+-- A search within the budget stopped for the cause. Where no Step was left, the valuation of the branch falsifies the
+-- problem; a problem that needs no more Steps than the budget has stops for no other cause.
 pub record IsStoppedFor (p : Problem) (why : Cause) (tree : Node) : Type 0 where
   pub tableau : IsTableau (root p) tree
   pub within : count tree ≤ step_budget
   pub stopped : Stopped (root p) step_budget tree why
   pub falsified : WhereSaturated p tree why
+  pub decided : weights (refuted p) ≤ 512 → need (refuted p) ≤ step_budget → why ≡ Cause.saturated
   pub picked : All (λ k. k ≡ 0) (picks tree)
 
 -- what a search for the problem within the budget found
