@@ -2,7 +2,6 @@
 ghost use Rattle.zenon_modulo.specs.Laws.{SpelledProblemsAreEqual, SpelledProblemsAreTyped, MisusesAreEqual, CommandsAreNotMisused};
 
 /// The bytes spell at most one problem. So the clauses of `run` speak of one and the same.
-#[tactic(auto, using(crate::proofs::OneReading::one_problem))]
 pub fn spelled_problems_are_equal()
     ensures { SpelledProblemsAreEqual }
 {}
