@@ -8,3 +8,4 @@ pub mod Spelled
 pub mod SymbolNames
 pub mod Answered
 pub mod OneReading
+pub mod TypedProblem
