@@ -15,7 +15,7 @@ text-preserved c =
 
 pub returns-in-Ok-End-clause-read : goal.returns-in-Ok-End-clause-read
 returns-in-Ok-End-clause-read c =
-    all_read c.args.bytes.now (drop c.text.at c.args.bytes.now) c.text.statements c.text.invariant.read (c.in-Ok-End.ensures.end (ap Ok c.in-Ok-End.field-0-is))
+    all_read c.args.bytes.now (drop c.text.at c.args.bytes.now) c.text.statements c.text.invariant.read (c.in-Ok-End.ensures.end.0 (ap Ok c.in-Ok-End.field-0-is))
 
 pub returns-in-Err-NotBuilt-clause-not_built : goal.returns-in-Err-NotBuilt-clause-not_built
 returns-in-Err-NotBuilt-clause-not_built c = λ e.
