@@ -1,15 +1,14 @@
 -- What is answered at each exit of a call is an answer.
-use Rattle.std.proofs.Common.{ℕ, ◌≡◌, ◌≤◌, ◌+◌, ◌<◌, List, [], ◌∷◌, length, Option, Some, None, IfSome, All, refl, ap, sym, ◌∙◌, subst, drop}
+use Rattle.std.proofs.Common.{ℕ, ◌≡◌, ◌≤◌, ◌+◌, List, [], length, Option, Some, None, IfSome, All, refl, sym, subst}
 use Rattle.zm_base.specs.Outside.{Rose, AtEnd, ReadsAtMost}
 use Rattle.zm_logic.specs.Tree.{Form, Problem}
 use Rattle.search.specs.Tableau.{picks}
-use Rattle.search.specs.View.{tree_of}
 use Rattle.zenon_modulo.specs.declared.outcome.Outcome.{Outcome}
 use Rattle.zenon_modulo.specs.declared.outcome.Outcome.TheVariants.{Proved, Falsified, Unknown, Refused, Usage, ReadFault, WriteFault, Memory}
 use Rattle.zenon_modulo.specs.declared.outcome.InputRefusal.TheVariants.{NotBuilt, TooLarge}
 use Rattle.zenon_modulo.specs.declared.words.UsageRefusal.{UsageRefusal}
 use Rattle.zenon_modulo.specs.Words.{Word, IsCommand, IsMisuse, misuse_of}
-use Rattle.zenon_modulo.specs.Outcome.{IfProved, IfFalsified, IfUnknown, IfSearched}
+use Rattle.zenon_modulo.specs.Outcome.{IfSearched}
 use Rattle.zenon_modulo.specs.Reading.{Spells}
 use Rattle.zenon_modulo.specs.Answer.{input_limit, IsSpelled, IsNotBuilt, IsTooLarge, IsAnswer}
 use Rattle.zenon_modulo.specs.Report.{Reports, IsReport, AnswersProblem, AnswersTo, IsTextOf}

@@ -1,11 +1,11 @@
 -- A text has no more names than bytes.
-use Rattle.std.proofs.Common.{ℕ, zero, suc, ◌≡◌, ◌+◌, ◌<◌, ◌≤◌, Bool, true, false, cond, List, [], ◌∷◌, ◌++◌, length, refl, arith, length-append}
+use Rattle.std.proofs.Common.{ℕ, ◌+◌, ◌≤◌, Bool, true, false, cond, List, [], ◌∷◌, ◌++◌, length, arith, length-append}
 use Rattle.tptp_reader.specs.declared.token.Sign.TheVariants.{Open, Close, Comma, Stop, Not, And, Or, Implies}
 use Rattle.tptp_reader.specs.Raw as raw
 use Rattle.tptp_reader.specs.Raw.{Raw, RawStatement}
 use Rattle.tptp_reader.specs.Grammar.{IsUnit, name, negated, bracketed, IsFormula, single, implied, all_of, some_of, IsConjunction, both, and_more, IsDisjunction, either, or_more, IsStatement, spelled, IsText, at_end, one_more}
 use Rattle.tptp_reader.proofs.Fronts.{behind_shorter, lower_end, sign_shorter}
-use Rattle.zenon_modulo.specs.Reading.{Name, has_name, add_name, add_names, names_added, add_all_names, names_in}
+use Rattle.zenon_modulo.specs.Reading.{Name, has_name, add_names, names_added, add_all_names, names_in}
 
 -- how many atoms stand in a formula
 abbrev pub atom_count : Raw → ℕ

@@ -1,10 +1,8 @@
 -- The problem that a text spells is one, and propositional.
-use Rattle.std.proofs.Common.{ℕ, ◌≡◌, List, [], ◌∷◌, ◌++◌, map, Option, Some, None, sym, ◌∙◌, ap, subst, All, refl, Result, Ok, Err, IfOk}
+use Rattle.std.proofs.Common.{ℕ, ◌≡◌, List, [], ◌∷◌, Option, Some, None, sym, ◌∙◌, ap, subst, All, Result, Ok, Err, IfOk}
 use Rattle.std.specs.Option.{option_map, option_to_list}
 use Rattle.std.proofs.lemmas.List.Concat.{flat_map-cons}
 use Rattle.std.proofs.lemmas.List.Elements.{All-append, All-nil, All-cons}
-use Rattle.tptp_reader.specs.declared.form.RawRole.{RawRole}
-use Rattle.tptp_reader.specs.declared.form.RawRole.TheVariants as roles
 use Rattle.tptp_reader.specs.Raw as raw
 use Rattle.tptp_reader.specs.Raw.{Raw, RawStatement}
 use Rattle.tptp_reader.specs.Grammar.{IsText}

@@ -4,7 +4,7 @@ use Rattle.zm_logic.specs.declared.problem.Symbol.{Symbol}
 use Rattle.zm_logic.specs.declared.problem.Problem.{Problem}
 use Rattle.zm_logic.specs.View.{symbol_tree, problem_tree}
 use Rattle.zm_logic.specs.Truth.{Valued}
-use Rattle.zenon_modulo.specs.Text.{names_of, valuation_text, falsified_text}
+use Rattle.zenon_modulo.specs.Text.{valuation_text, falsified_text}
 
 pub names_same : (ss : List Symbol) → map (λ s. s.name) (map symbol_tree ss) ≡ map (λ s. s.name) ss
 names_same [] = refl

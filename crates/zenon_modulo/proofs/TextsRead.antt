@@ -1,5 +1,5 @@
 -- Reading a text statement by statement: what is read so far, and what is left.
-use Rattle.std.proofs.Common.{ℕ, ◌≡◌, ◌<◌, List, [], ◌∷◌, ◌++◌, drop, map, refl, ap, sym, ◌∙◌, subst, append_assoc}
+use Rattle.std.proofs.Common.{ℕ, List, [], ◌∷◌, ◌++◌, map, ap, sym, ◌∙◌, subst, append_assoc}
 use Rattle.std.proofs.lemmas.List.{map_push, append-nil}
 use Rattle.tptp_reader.specs.declared.statement.Statement.{Statement}
 use Rattle.tptp_reader.specs.Raw.{RawStatement}

@@ -1,5 +1,5 @@
 -- The answers of a call, by cases.
-use Rattle.std.specs.Prelude.{ℕ, ◌≡◌, ◌⊎◌, List, map, All}
+use Rattle.std.specs.Prelude.{ℕ, List, map}
 use Rattle.zenon_modulo.specs.declared.outcome.Outcome.{Outcome}
 use Rattle.zenon_modulo.specs.declared.outcome.Outcome.TheVariants as outcomes
 use Rattle.zm_logic.specs.Truth.{Valued}

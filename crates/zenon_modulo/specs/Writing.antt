@@ -1,5 +1,5 @@
 -- What a call writes.
-use Rattle.std.specs.Prelude.{ℕ, ◌≡◌, ◌≤◌, List, [], Option, length, take}
+use Rattle.std.specs.Prelude.{ℕ, ◌≤◌, List, Option, length, take}
 use Rattle.zm_logic.specs.Tree.{Problem}
 use Rattle.zm_base.specs.Outside.{Takes}
 use Rattle.zenon_modulo.specs.declared.outcome.Outcome.{Outcome}

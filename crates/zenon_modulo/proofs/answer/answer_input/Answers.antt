@@ -1,5 +1,4 @@
-use Rattle.std.proofs.Common.{ℕ, ◌≡◌, ◌≤◌, List, [], length, Some, IfSome, sym, subst, arith}
-use Rattle.zenon_modulo.specs.Answer.{input_limit}
+use Rattle.std.proofs.Common.{ℕ, ◌≡◌, List, [], Some, IfSome, sym, subst, arith}
 use Rattle.zenon_modulo.specs.declared.outcome.Outcome.TheVariants.{Refused, ReadFault, Memory}
 use Rattle.zenon_modulo.specs.declared.outcome.InputRefusal.TheVariants.{TooLarge}
 use Rattle.zenon_modulo.proofs.Answered.{IsReadWhole, read_answer, read_text, plain_text}

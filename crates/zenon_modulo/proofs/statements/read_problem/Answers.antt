@@ -1,7 +1,6 @@
-use Rattle.std.proofs.Common.{◌≤◌, length, map, sym, subst, arith}
+use Rattle.std.proofs.Common.{map, sym, subst, arith}
 use Rattle.tptp_reader.specs.Grammar.{IsText}
 use Rattle.tptp_reader.specs.View.{statement_tree}
-use Rattle.zenon_modulo.specs.Reading.{names_in}
 use Rattle.zenon_modulo.proofs.NameCounts.{names_bound}
 use Rattle.zenon_modulo.proofs.Spelled.{made_propositional, made_none}
 use Rattle.zenon_modulo.proofs.statements.read_problem.Goals as goal

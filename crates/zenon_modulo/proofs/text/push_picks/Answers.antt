@@ -1,4 +1,4 @@
-use Rattle.std.proofs.Common.{refl, arith}
+use Rattle.std.proofs.Common.{arith}
 use Rattle.zenon_modulo.proofs.Picks.{picks_step}
 use Rattle.zenon_modulo.proofs.text.push_picks.Goals as goal
 
