@@ -1,0 +1,101 @@
+-- The first sign of the table that fits is the longest.
+use Rattle.std.proofs.Common.{◌≡◌, ℕ, ◌≤◌, Bool, true, false, cond, List, [], ◌∷◌, length, Option, Some, None, refl, sym, ◌∙◌, ap, subst, arith, inl, inr, ◌⊎◌}
+use Rattle.std.specs.Prelude.{nat_le, ◌&&◌, IfSome}
+use Rattle.std.proofs.lemmas.Bool.{leb-true}
+use Rattle.std.specs.List.{find}
+use Rattle.tptp_lex.specs.declared.signs.Sign.{Sign}
+use Rattle.tptp_lex.specs.declared.signs.Sign.TheVariants.{Open, Close, OpenList, CloseList, Comma, Stop, Colon, And, Or, Not, Implies, If, Iff, Xor, NotAnd, NotOr, Equal, NotEqual, All, Exists, AllTypes, Arrow, Star, At, Caret, Plus, Minus}
+use Rattle.tptp_lex.specs.declared.signs.TheConstants.{SIGNS}
+use Rattle.tptp_lex.specs.Signs.{spelling, begins, IsLongestSign}
+
+none_some : (s : Sign) → ◌≡◌ {A = Option Sign} None (Some s) → ⊥
+none_some s e = cc
+
+IsIn : Sign → List Sign → Type 0
+IsIn t [] = ⊥
+IsIn t (x ∷ xs) = (t ≡ x) ⊎ IsIn t xs
+
+-- none of them has a longer spelling than n
+abbrev none_longer : ℕ → List Sign → Bool
+none_longer n [] = true
+none_longer n (x ∷ xs) = nat_le (length (spelling x)) n && none_longer n xs
+
+abbrev descends : List Sign → Bool
+descends [] = true
+descends (x ∷ xs) = none_longer (length (spelling x)) xs && descends xs
+
+both_true : (s t : Bool) → (s && t) ≡ true → (s ≡ true) × (t ≡ true)
+both_true true t h = (refl, h)
+both_true false t h = cc
+
+no_longer : (n : ℕ) (xs : List Sign) (t : Sign) → none_longer n xs ≡ true → IsIn t xs → length (spelling t) ≤ n
+unfolding IsIn
+no_longer n [] t h i = absurd i
+no_longer n (x ∷ xs) t h (inl e) = subst (λ (u : Sign). length (spelling u) ≤ n) (sym e) (leb-true _ _ (both_true (nat_le (length (spelling x)) n) (none_longer n xs) h).0)
+no_longer n (x ∷ xs) t h (inr i) = no_longer n xs t (both_true (nat_le (length (spelling x)) n) (none_longer n xs) h).1 i
+
+false_true : ◌≡◌ {A = Bool} false true → ⊥
+false_true h = cc
+
+at_most : (x t : Sign) (xs : List Sign) → none_longer (length (spelling x)) xs ≡ true → IsIn t (x ∷ xs) → length (spelling t) ≤ length (spelling x)
+unfolding IsIn
+at_most x t xs h (inl e) = subst (λ (u : Sign). length (spelling t) ≤ length (spelling u)) e (omega arith)
+at_most x t xs h (inr i) = no_longer (length (spelling x)) xs t h i
+
+record Longest (p : Sign → Bool) (xs : List Sign) (s : Sign) : Type 0 where
+  fits : p s ≡ true
+  others : (t : Sign) → IsIn t xs → p t ≡ true → length (spelling t) ≤ length (spelling s)
+
+later : (p : Sign → Bool) (x s : Sign) (xs : List Sign) → p x ≡ false → Longest p xs s → (t : Sign) → IsIn t (x ∷ xs) → p t ≡ true → length (spelling t) ≤ length (spelling s)
+unfolding IsIn
+later p x s xs is l t (inl e) h = absurd (false_true (sym is ∙ ap p (sym e) ∙ h))
+later p x s xs is l t (inr i) h = l.others t i h
+
+step : (p : Sign → Bool) (x s : Sign) (xs : List Sign) (b : Bool) → p x ≡ b → none_longer (length (spelling x)) xs ≡ true → (find p xs ≡ Some s → Longest p xs s) → cond b (Some x) (find p xs) ≡ Some s → Longest p (x ∷ xs) s
+step p x s xs true is d next found =
+    let same : x ≡ s = cc in
+    record { fits = ap p (sym same) ∙ is; others = λ t i h. subst (λ (u : Sign). length (spelling t) ≤ length (spelling u)) same (at_most x t xs d i) }
+step p x s xs false is d next found = record { fits = (next found).fits; others = later p x s xs is (next found) }
+
+first_longest : (p : Sign → Bool) (xs : List Sign) (s : Sign) → descends xs ≡ true → find p xs ≡ Some s → Longest p xs s
+first_longest p [] s d e = absurd (none_some s e)
+first_longest p (x ∷ xs) s d e = let parts = both_true (none_longer (length (spelling x)) xs) (descends xs) d in step p x s xs (p x) refl parts.0 (first_longest p xs s parts.1) e
+
+each_sign : (t : Sign) → IsIn t SIGNS
+unfolding IsIn
+each_sign Iff = inl refl
+each_sign Xor = inr (inl refl)
+each_sign Implies = inr (inr (inl refl))
+each_sign If = inr (inr (inr (inl refl)))
+each_sign NotAnd = inr (inr (inr (inr (inl refl))))
+each_sign NotOr = inr (inr (inr (inr (inr (inl refl)))))
+each_sign NotEqual = inr (inr (inr (inr (inr (inr (inl refl))))))
+each_sign AllTypes = inr (inr (inr (inr (inr (inr (inr (inl refl)))))))
+each_sign Open = inr (inr (inr (inr (inr (inr (inr (inr (inl refl))))))))
+each_sign Close = inr (inr (inr (inr (inr (inr (inr (inr (inr (inl refl)))))))))
+each_sign OpenList = inr (inr (inr (inr (inr (inr (inr (inr (inr (inr (inl refl))))))))))
+each_sign CloseList = inr (inr (inr (inr (inr (inr (inr (inr (inr (inr (inr (inl refl)))))))))))
+each_sign Comma = inr (inr (inr (inr (inr (inr (inr (inr (inr (inr (inr (inr (inl refl))))))))))))
+each_sign Stop = inr (inr (inr (inr (inr (inr (inr (inr (inr (inr (inr (inr (inr (inl refl)))))))))))))
+each_sign Colon = inr (inr (inr (inr (inr (inr (inr (inr (inr (inr (inr (inr (inr (inr (inl refl))))))))))))))
+each_sign And = inr (inr (inr (inr (inr (inr (inr (inr (inr (inr (inr (inr (inr (inr (inr (inl refl)))))))))))))))
+each_sign Or = inr (inr (inr (inr (inr (inr (inr (inr (inr (inr (inr (inr (inr (inr (inr (inr (inl refl))))))))))))))))
+each_sign Not = inr (inr (inr (inr (inr (inr (inr (inr (inr (inr (inr (inr (inr (inr (inr (inr (inr (inl refl)))))))))))))))))
+each_sign Equal = inr (inr (inr (inr (inr (inr (inr (inr (inr (inr (inr (inr (inr (inr (inr (inr (inr (inr (inl refl))))))))))))))))))
+each_sign All = inr (inr (inr (inr (inr (inr (inr (inr (inr (inr (inr (inr (inr (inr (inr (inr (inr (inr (inr (inl refl)))))))))))))))))))
+each_sign Exists = inr (inr (inr (inr (inr (inr (inr (inr (inr (inr (inr (inr (inr (inr (inr (inr (inr (inr (inr (inr (inl refl))))))))))))))))))))
+each_sign Arrow = inr (inr (inr (inr (inr (inr (inr (inr (inr (inr (inr (inr (inr (inr (inr (inr (inr (inr (inr (inr (inr (inl refl)))))))))))))))))))))
+each_sign Star = inr (inr (inr (inr (inr (inr (inr (inr (inr (inr (inr (inr (inr (inr (inr (inr (inr (inr (inr (inr (inr (inr (inl refl))))))))))))))))))))))
+each_sign At = inr (inr (inr (inr (inr (inr (inr (inr (inr (inr (inr (inr (inr (inr (inr (inr (inr (inr (inr (inr (inr (inr (inr (inl refl)))))))))))))))))))))))
+each_sign Caret = inr (inr (inr (inr (inr (inr (inr (inr (inr (inr (inr (inr (inr (inr (inr (inr (inr (inr (inr (inr (inr (inr (inr (inr (inl refl))))))))))))))))))))))))
+each_sign Plus = inr (inr (inr (inr (inr (inr (inr (inr (inr (inr (inr (inr (inr (inr (inr (inr (inr (inr (inr (inr (inr (inr (inr (inr (inr (inl refl)))))))))))))))))))))))))
+each_sign Minus = inr (inr (inr (inr (inr (inr (inr (inr (inr (inr (inr (inr (inr (inr (inr (inr (inr (inr (inr (inr (inr (inr (inr (inr (inr (inr (inl refl))))))))))))))))))))))))))
+
+pub first_is_longest : (bytes : List ℕ) (s : Sign) → find (begins bytes) SIGNS ≡ Some s → IsLongestSign bytes s
+first_is_longest bytes s e =
+    let l = first_longest (begins bytes) SIGNS s refl e in
+    record { begins_with = l.fits; longest = λ t h. l.others t (each_sign t) h }
+
+pub found_is_longest : (bytes : List ℕ) (r : Option Sign) → r ≡ find (begins bytes) SIGNS → IfSome r (IsLongestSign bytes)
+found_is_longest bytes None e = tt
+found_is_longest bytes (Some s) e = first_is_longest bytes s (sym e)
