@@ -99,3 +99,17 @@ first_is_longest bytes s e =
 pub found_is_longest : (bytes : List ℕ) (r : Option Sign) → r ≡ find (begins bytes) SIGNS → IfSome r (IsLongestSign bytes)
 found_is_longest bytes None e = tt
 found_is_longest bytes (Some s) e = first_is_longest bytes s (sym e)
+
+-- a sign of the table that fits is found
+not_first : (p : Sign → Bool) (t x : Sign) (xs : List Sign) (b : Bool) → p x ≡ b → cond b (Some x) (find p xs) ≡ None → (t ≡ x) ⊎ IsIn t xs → p t ≡ true → (find p xs ≡ None → IsIn t xs → p t ≡ true → ⊥) → ⊥
+not_first p t x xs true is e i h next = none_some x (sym e)
+not_first p t x xs false is e (inl same) h next = false_true (sym is ∙ ap p (sym same) ∙ h)
+not_first p t x xs false is e (inr i) h next = next e i h
+
+missing : (p : Sign → Bool) (t : Sign) (xs : List Sign) → find p xs ≡ None → IsIn t xs → p t ≡ true → ⊥
+unfolding IsIn
+missing p t [] e i h = absurd i
+missing p t (x ∷ xs) e i h = not_first p t x xs (p x) refl e i h (missing p t xs)
+
+pub sign_found : (bytes : List ℕ) (s : Sign) → begins bytes s ≡ true → find (begins bytes) SIGNS ≡ None → ⊥
+sign_found bytes s h e = missing (begins bytes) s SIGNS e (each_sign s) h

@@ -1,8 +1,8 @@
 -- From one place on there is one next token, or one fault.
-use Rattle.std.proofs.Common.{◌≡◌, ℕ, ◌+◌, ◌-◌, ◌<◌, ◌≤◌, Bool, true, false, cond, List, [], ◌∷◌, length, drop, length-drop, Option, Some, None, refl, sym, ◌∙◌, ap, subst, arith}
+use Rattle.std.proofs.Common.{◌≡◌, ℕ, ◌+◌, ◌-◌, ◌≤◌, Bool, true, false, cond, List, [], ◌∷◌, length, drop, length-drop, Option, Some, None, refl, sym, ◌∙◌, ap, subst, arith}
 use Rattle.tptp_lex.specs.declared.lexer.Token.{Token}
 use Rattle.tptp_lex.specs.declared.token.TokenKind.{TokenKind}
-use Rattle.std.specs.Prelude.{Result, Ok, Err, IfOk, IfErr, IfSome, ◌==◌}
+use Rattle.std.specs.Prelude.{Result, Ok, Err, IfOk, IfErr, IfSome, ◌==◌, ◌≢◌}
 use Rattle.std.specs.Option.{option_map}
 use Rattle.std.specs.List.{find}
 use Rattle.std.proofs.Math.Seq.{drop-length}
@@ -11,12 +11,15 @@ use Rattle.tptp_lex.specs.declared.signs.Sign.{Sign}
 use Rattle.tptp_lex.specs.declared.signs.TheConstants.{SIGNS}
 use Rattle.tptp_lex.specs.declared.token.TokenKind.TheVariants as kinds
 use Rattle.tptp_lex.specs.Blank.{Skips}
-use Rattle.tptp_lex.specs.Words.{between, is_small, is_word, run}
+use Rattle.tptp_lex.specs.Words.{is_small, is_capital}
 use Rattle.tptp_lex.specs.Signs.{begins}
 use Rattle.tptp_lex.specs.Numbers.{number_length}
-use Rattle.tptp_lex.specs.Tokens.{token_at, dollar_length, marked_length, sign_token, number_or, number_or_sign}
+use Rattle.tptp_lex.specs.Tokens.{token_at, dollar_length, marked_length, sign_token, number_or}
 use Rattle.tptp_lex.specs.Lexing.{Reading, IsNext, IsFault, OnlyBlank, end_of}
+use Rattle.tptp_lex.specs.Rows.{IsLongest, NoRow}
+use Rattle.std.proofs.lemmas.List.{drop-drop}
 use Rattle.tptp_lex.proofs.Suffix.{one_end}
+use Rattle.tptp_lex.proofs.RowsReach.{is_longest, no_row}
 
 -- an end of the text has one place
 same_place : (bytes : List ℕ) (i j : ℕ) → i ≤ length bytes → j ≤ length bytes → drop i bytes ≡ drop j bytes → i ≡ j
@@ -96,7 +99,7 @@ number_row (Some n) p = refl
 no_end : (b : ℕ) (bytes : List ℕ) → ends (token_at (b ∷ bytes)) ≡ false
 no_end b bytes =
     either (is_small b) _ _ refl
-    (either (between 65 90 b) _ _ refl
+    (either (is_capital b) _ _ refl
     (either (b == 36) _ _ (dollar_row (dollar_length bytes))
     (either (b == 39) _ _ (quoted_row (marked_length 39 bytes))
     (either (b == 34) _ _ (distinct_row (marked_length 34 bytes))
@@ -142,3 +145,20 @@ reached_within v r e le = subst (λ (u : Reading). u.reached ≤ length u.text) 
 
 pub end_shown : (v r : Reading) (t : Token) → v ≡ r → IsNext v.text v.reached t → t.kind ≡ kinds.End → OnlyBlank r.text r.reached
 end_shown v r t e n = blank_end r.text r.reached t (subst (λ (u : Reading). IsNext u.text u.reached t) e n)
+
+-- the token as a row of the table
+next_row : (text : List ℕ) (from : ℕ) (t : Token) → IsNext text from t → t.kind ≢ kinds.End → IsLongest (drop t.start text) t.kind (drop t.end text)
+next_row text from t n other =
+    let order = n.order in
+    let behind : t.start + (t.end - t.start) ≡ t.end = omega arith in
+    let here : drop (t.end - t.start) (drop t.start text) ≡ drop t.end text = drop-drop (t.end - t.start) t.start text ∙ ap (λ (m : ℕ). drop m text) behind in
+    subst (λ (r : List ℕ). IsLongest (drop t.start text) t.kind r) here (is_longest (drop t.start text) t.kind (t.end - t.start) n.row other)
+
+pub row_shown : (v r : Reading) (t : Token) → v ≡ r → IsNext v.text v.reached t → t.kind ≢ kinds.End → IsLongest (drop t.start r.text) t.kind (drop t.end r.text)
+row_shown v r t e n = next_row r.text r.reached t (subst (λ (u : Reading). IsNext u.text u.reached t) e n)
+
+pub no_row_shown : (text : List ℕ) (from at : ℕ) → IsFault text from at → NoRow (drop at text)
+no_row_shown text from at f = no_row (drop at text) f.none
+
+pub no_row_here : (v r : Reading) (f : LexFault) → v ≡ r → IsFault v.text v.reached f.at → NoRow (drop f.at r.text)
+no_row_here v r f e h = subst (λ (u : Reading). NoRow (drop f.at u.text)) e (no_row_shown v.text v.reached f.at h)

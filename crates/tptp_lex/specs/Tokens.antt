@@ -6,7 +6,7 @@ use Rattle.tptp_lex.specs.declared.signs.Sign.{Sign}
 use Rattle.tptp_lex.specs.declared.signs.TheConstants.{SIGNS}
 use Rattle.tptp_lex.specs.declared.token.TokenKind.{TokenKind}
 use Rattle.tptp_lex.specs.declared.token.TokenKind.TheVariants as kinds
-use Rattle.tptp_lex.specs.Words.{between, is_small, is_word, run, lower_length}
+use Rattle.tptp_lex.specs.Words.{is_small, is_capital, is_word, run, lower_length}
 use Rattle.tptp_lex.specs.Quoted.{closes}
 use Rattle.tptp_lex.specs.Signs.{spelling, begins}
 use Rattle.tptp_lex.specs.Numbers.{number_length}
@@ -37,7 +37,7 @@ abbrev pub token_at : List ℕ → Option (TokenKind × ℕ)
 token_at [] = Some (kinds.End, 0)
 token_at (b ∷ bytes) =
     cond (is_small b) (Some (kinds.Lower, 1 + run is_word bytes))
-    (cond (between 65 90 b) (Some (kinds.Upper, 1 + run is_word bytes))
+    (cond (is_capital b) (Some (kinds.Upper, 1 + run is_word bytes))
     (cond (b == 36) (option_map (λ n. (kinds.Dollar, 1 + n)) (dollar_length bytes))
     (cond (b == 39) (option_map (λ n. (kinds.Quoted, 1 + n)) (marked_length 39 bytes))
     (cond (b == 34) (option_map (λ n. (kinds.Distinct, 1 + n)) (marked_length 34 bytes))

@@ -1,4 +1,5 @@
-ghost use Rattle.std.specs.Prelude.{◌≡◌, ◌≤◌, Option, Some, None, Ok, Err, true, length, IfSome, IfOk, IfErr, ℕ};
+ghost use Rattle.std.specs.Prelude.{◌≡◌, ◌≢◌, ◌≤◌, drop, Option, Some, None, Ok, Err, true, length, IfSome, IfOk, IfErr, ℕ};
+ghost use Rattle.tptp_lex.specs.Rows.{IsLongest, NoRow};
 ghost use Rattle.tptp_lex.specs.Lexing.{Reading, IsNext, IsFault, OnlyBlank, end_of};
 
 use crate::blank::after_blank;
@@ -81,8 +82,10 @@ impl<'a> Lexer<'a> {
     #[tactic(auto, using(crate::proofs::Once::each_token, crate::proofs::Once::each_fault, crate::proofs::Once::end_only, crate::proofs::Once::each_end))]
     pub fn next(&mut self) -> Result<Token, LexFault>
         ensures token { IfOk result (λ t. IsNext self.old.text self.old.reached t) }
+        ensures longest { IfOk result (λ t. t.kind ≢ End → IsLongest (drop t.start self.old.text) t.kind (drop t.end self.old.text)) }
         ensures each_token { (t : Token) → IsNext self.old.text self.old.reached t → result ≡ Ok t }
         ensures fault { IfErr result (λ f. IsFault self.old.text self.old.reached f.at) }
+        ensures no_row { IfErr result (λ f. NoRow (drop f.at self.old.text)) }
         ensures each_fault { (at : ℕ) → IsFault self.old.text self.old.reached at → result ≡ Err record { at = at } }
         ensures end { IfOk result (λ t. t.kind ≡ End → OnlyBlank self.old.text self.old.reached) }
         ensures each_end { OnlyBlank self.old.text self.old.reached → result ≡ Ok (end_of self.old.text) }
