@@ -113,3 +113,53 @@ missing p t (x ∷ xs) e i h = not_first p t x xs (p x) refl e i h (missing p t 
 
 pub sign_found : (bytes : List ℕ) (s : Sign) → begins bytes s ≡ true → find (begins bytes) SIGNS ≡ None → ⊥
 sign_found bytes s h e = missing (begins bytes) s SIGNS e (each_sign s) h
+
+-- each sign has a byte
+abbrev none_empty : List Sign → Bool
+none_empty [] = true
+none_empty (x ∷ xs) = nat_le 1 (length (spelling x)) && none_empty xs
+
+not_empty : (xs : List Sign) (t : Sign) → none_empty xs ≡ true → IsIn t xs → 1 ≤ length (spelling t)
+unfolding IsIn
+not_empty [] t h i = absurd i
+not_empty (x ∷ xs) t h (inl e) = subst (λ (u : Sign). 1 ≤ length (spelling u)) (sym e) (leb-true _ _ (both_true (nat_le 1 (length (spelling x))) (none_empty xs) h).0)
+not_empty (x ∷ xs) t h (inr i) = not_empty xs t (both_true (nat_le 1 (length (spelling x))) (none_empty xs) h).1 i
+
+pub has_byte : (s : Sign) → 1 ≤ length (spelling s)
+has_byte s = not_empty SIGNS s refl (each_sign s)
+
+-- two signs are spelled in two ways
+finds_itself : (s : Sign) → find (begins (spelling s)) SIGNS ≡ Some s
+finds_itself Iff = refl
+finds_itself Xor = refl
+finds_itself Implies = refl
+finds_itself If = refl
+finds_itself NotAnd = refl
+finds_itself NotOr = refl
+finds_itself NotEqual = refl
+finds_itself AllTypes = refl
+finds_itself Open = refl
+finds_itself Close = refl
+finds_itself OpenList = refl
+finds_itself CloseList = refl
+finds_itself Comma = refl
+finds_itself Stop = refl
+finds_itself Colon = refl
+finds_itself And = refl
+finds_itself Or = refl
+finds_itself Not = refl
+finds_itself Equal = refl
+finds_itself All = refl
+finds_itself Exists = refl
+finds_itself Arrow = refl
+finds_itself Star = refl
+finds_itself At = refl
+finds_itself Caret = refl
+finds_itself Plus = refl
+finds_itself Minus = refl
+
+some_sign : (s t : Sign) → Some s ≡ Some t → s ≡ t
+some_sign s t e = cc
+
+pub same_spelling : (s t : Sign) → spelling s ≡ spelling t → s ≡ t
+same_spelling s t e = some_sign s t (sym (finds_itself s) ∙ ap (λ (w : List ℕ). find (begins w) SIGNS) e ∙ finds_itself t)

@@ -2,7 +2,7 @@
 use Rattle.std.proofs.Common.{◌≡◌, ℕ, ◌+◌, ◌-◌, ◌≤◌, Bool, true, false, cond, List, [], ◌∷◌, length, drop, length-drop, Option, Some, None, refl, sym, ◌∙◌, ap, subst, arith}
 use Rattle.tptp_lex.specs.declared.lexer.Token.{Token}
 use Rattle.tptp_lex.specs.declared.token.TokenKind.{TokenKind}
-use Rattle.std.specs.Prelude.{Result, Ok, Err, IfOk, IfErr, IfSome, ◌==◌, ◌≢◌}
+use Rattle.std.specs.Prelude.{IfSome, ◌==◌, ◌≢◌}
 use Rattle.std.specs.Option.{option_map}
 use Rattle.std.specs.List.{find}
 use Rattle.std.proofs.Math.Seq.{drop-length}
@@ -15,11 +15,12 @@ use Rattle.tptp_lex.specs.Words.{is_small, is_capital}
 use Rattle.tptp_lex.specs.Signs.{begins}
 use Rattle.tptp_lex.specs.Numbers.{number_length}
 use Rattle.tptp_lex.specs.Tokens.{token_at, dollar_length, marked_length, sign_token, number_or}
-use Rattle.tptp_lex.specs.Lexing.{Reading, IsNext, IsFault, OnlyBlank, end_of}
-use Rattle.tptp_lex.specs.Rows.{IsLongest, NoRow}
+use Rattle.tptp_lex.specs.Lexing.{Reading, IsToken, at_end, in_table, IsNext, IsFault, OnlyBlank, end_of}
+use Rattle.tptp_lex.specs.Found.{Finds, FindsNone}
+use Rattle.tptp_lex.specs.Rows.{NoRow}
 use Rattle.std.proofs.lemmas.List.{drop-drop}
 use Rattle.tptp_lex.proofs.Suffix.{one_end}
-use Rattle.tptp_lex.proofs.RowsReach.{is_longest, no_row}
+use Rattle.tptp_lex.proofs.RowsReach.{is_longest, no_row, empty_row, same_longest}
 
 -- an end of the text has one place
 same_place : (bytes : List ℕ) (i j : ℕ) → i ≤ length bytes → j ≤ length bytes → drop i bytes ≡ drop j bytes → i ≡ j
@@ -39,32 +40,73 @@ same_token t u p q r =
     ∙ ap (λ s. record { kind = u.kind; start = s; end = t.end }) q
     ∙ ap (λ e. record { kind = u.kind; start = u.start; end = e }) r
 
-pub one_next : (bytes : List ℕ) (from : ℕ) (t u : Token) → IsNext bytes from t → IsNext bytes from u → t ≡ u
-one_next bytes from t u n m =
-    let rest = one_end (drop from bytes) (drop t.start bytes) (drop u.start bytes) n.skips m.skips in
-    let t_order = n.order in let u_order = m.order in let t_in = n.within in let u_in = m.within in
-    let start : t.start ≡ u.start = same_place bytes t.start u.start (omega arith) (omega arith) rest in
-    let pair : ◌≡◌ {A = TokenKind × ℕ} (t.kind, t.end - t.start) (u.kind, u.end - u.start) = some_pair (t.kind, t.end - t.start) (u.kind, u.end - u.start) (sym n.row ∙ ap token_at rest ∙ m.row) in
-    let kind : t.kind ≡ u.kind = ap (λ (p : TokenKind × ℕ). p.0) pair in
-    let len : t.end - t.start ≡ u.end - u.start = ap (λ (p : TokenKind × ℕ). p.1) pair in
-    same_token t u kind start (omega arith)
+-- what is found is a token
+token_is : (bytes : List ℕ) (kind : TokenKind) (n : ℕ) → token_at bytes ≡ Some (kind, n) → IsToken bytes kind (drop n bytes)
+token_is [] kind n e = subst (λ (p : TokenKind × ℕ). IsToken [] p.0 (drop p.1 [])) (some_pair (kinds.End, 0) (kind, n) e) at_end
+token_is (b ∷ bytes) kind n e = in_table (is_longest b bytes kind n e)
 
-pub no_fault : (bytes : List ℕ) (from at : ℕ) (t : Token) → IsNext bytes from t → IsFault bytes from at → ⊥
-no_fault bytes from at t n f =
-    let rest = one_end (drop from bytes) (drop t.start bytes) (drop at bytes) n.skips f.skips in
-    none_pair (t.kind, t.end - t.start) (sym (sym n.row ∙ ap token_at rest ∙ f.none))
+next_of : (text : List ℕ) (from : ℕ) (t : Token) → Finds text from t → IsNext text from t
+next_of text from t n =
+    let order = n.order in
+    let behind : t.start + (t.end - t.start) ≡ t.end = omega arith in
+    let here : drop (t.end - t.start) (drop t.start text) ≡ drop t.end text = drop-drop (t.end - t.start) t.start text ∙ ap (λ (m : ℕ). drop m text) behind in
+    record {
+      skips = n.skips;
+      token = subst (λ (r : List ℕ). IsToken (drop t.start text) t.kind r) here (token_is (drop t.start text) t.kind (t.end - t.start) n.row);
+      after = n.after;
+      order = n.order;
+      within = n.within;
+    }
 
-pub one_fault : (bytes : List ℕ) (from i j : ℕ) → IsFault bytes from i → IsFault bytes from j → i ≡ j
-one_fault bytes from i j f g = same_place bytes i j f.within g.within (one_end (drop from bytes) (drop i bytes) (drop j bytes) f.skips g.skips)
+fault_is : (text : List ℕ) (from at : ℕ) → FindsNone text from at → IsFault text from at
+fault_is text from at f = record {
+  skips = f.skips;
+  more = λ h. none_pair (kinds.End, 0) (sym f.none ∙ ap token_at h);
+  none = no_row (drop at text) f.none;
+  after = f.after;
+  within = f.within;
+}
 
--- what a call answers, where it is one or the other
-pub each_token : (text : List ℕ) (from : ℕ) (r : Result Token LexFault) → IfOk r (λ t. IsNext text from t) → IfErr r (λ f. IsFault text from f.at) → (t : Token) → IsNext text from t → r ≡ Ok t
-each_token text from (Ok u) n f t m = ap Ok (one_next text from u t n m)
-each_token text from (Err f) n g t m = absurd (no_fault text from f.at t m g)
+-- and it is the only one
+token_same : (bytes : List ℕ) (kind : TokenKind) (rest : List ℕ) (k : TokenKind) (n : ℕ) → IsToken bytes kind rest → token_at bytes ≡ Some (k, n) → n ≤ length bytes → (k ≡ kind) × (length rest + n ≡ length bytes)
+token_same bytes kind rest k n at_end e le =
+    let pair = some_pair (kinds.End, 0) (k, n) e in
+    let count : 0 ≡ n = ap (λ (p : TokenKind × ℕ). p.1) pair in
+    (sym (ap (λ (p : TokenKind × ℕ). p.0) pair), omega arith)
+token_same [] kind rest k n (in_table l) e le = absurd (empty_row kind rest l.row)
+token_same (b ∷ bytes) kind rest k n (in_table l) e le = same_longest b bytes kind k n rest e le l
 
-pub each_fault : (text : List ℕ) (from : ℕ) (r : Result Token LexFault) → IfOk r (λ t. IsNext text from t) → IfErr r (λ f. IsFault text from f.at) → (at : ℕ) → IsFault text from at → r ≡ Err record { at = at }
-each_fault text from (Ok u) n g at m = absurd (no_fault text from at u n m)
-each_fault text from (Err f) n g at m = ap (λ (i : ℕ). Err record { at = i }) (one_fault text from f.at at g m)
+one_next : (text : List ℕ) (from : ℕ) (u t : Token) → Finds text from u → IsNext text from t → u ≡ t
+one_next text from u t n m =
+    let rest = one_end (drop from text) (drop u.start text) (drop t.start text) n.skips m.skips in
+    let u_order = n.order in let t_order = m.order in let u_in = n.within in let t_in = m.within in
+    let start : u.start ≡ t.start = same_place text u.start t.start (omega arith) (omega arith) rest in
+    let long : length (drop t.start text) ≡ length text - t.start = length-drop t.start text in
+    let left : length (drop t.end text) ≡ length text - t.end = length-drop t.end text in
+    let same = token_same (drop t.start text) t.kind (drop t.end text) u.kind (u.end - u.start) m.token (ap token_at (sym rest) ∙ n.row) (omega arith) in
+    let sum = same.1 in
+    same_token u t same.0 start (omega arith)
+
+some_row : (bytes : List ℕ) (k : TokenKind) (n : ℕ) → token_at bytes ≡ Some (k, n) → bytes ≢ [] → NoRow bytes → ⊥
+some_row [] k n e more none = more refl
+some_row (b ∷ bytes) k n e more none = none k (drop n (b ∷ bytes)) (is_longest b bytes k n e).row
+
+no_fault : (text : List ℕ) (from at : ℕ) (t : Token) → Finds text from t → IsFault text from at → ⊥
+no_fault text from at t n f =
+    let rest = one_end (drop from text) (drop t.start text) (drop at text) n.skips f.skips in
+    some_row (drop at text) t.kind (t.end - t.start) (ap token_at (sym rest) ∙ n.row) f.more f.none
+
+no_token : (bytes : List ℕ) (kind : TokenKind) (rest : List ℕ) → IsToken bytes kind rest → token_at bytes ≡ None → ⊥
+no_token bytes kind rest at_end e = none_pair (kinds.End, 0) (sym e)
+no_token bytes kind rest (in_table l) e = no_row bytes e kind rest l.row
+
+no_next : (text : List ℕ) (from at : ℕ) (t : Token) → FindsNone text from at → IsNext text from t → ⊥
+no_next text from at t f m =
+    let rest = one_end (drop from text) (drop at text) (drop t.start text) f.skips m.skips in
+    no_token (drop t.start text) t.kind (drop t.end text) m.token (ap token_at (sym rest) ∙ f.none)
+
+one_fault : (text : List ℕ) (from i j : ℕ) → FindsNone text from i → IsFault text from j → i ≡ j
+one_fault text from i j f g = same_place text i j f.within g.within (one_end (drop from text) (drop i text) (drop j text) f.skips g.skips)
 
 -- the end is no row of the table
 abbrev ends : Option (TokenKind × ℕ) → Bool
@@ -108,57 +150,54 @@ no_end b bytes =
 true_false : ◌≡◌ {A = Bool} true false → ⊥
 true_false h = cc
 
-at_end : (rest : List ℕ) (n : ℕ) → token_at rest ≡ Some (kinds.End, n) → rest ≡ []
-at_end [] n e = refl
-at_end (b ∷ bytes) n e = absurd (true_false (sym (ap ends e) ∙ no_end b bytes))
+is_end : (rest : List ℕ) (n : ℕ) → token_at rest ≡ Some (kinds.End, n) → rest ≡ []
+is_end [] n e = refl
+is_end (b ∷ bytes) n e = absurd (true_false (sym (ap ends e) ∙ no_end b bytes))
 
-blank_end : (text : List ℕ) (from : ℕ) (t : Token) → IsNext text from t → t.kind ≡ kinds.End → OnlyBlank text from
+blank_end : (text : List ℕ) (from : ℕ) (t : Token) → Finds text from t → t.kind ≡ kinds.End → OnlyBlank text from
 blank_end text from t n e =
-    subst (λ (r : List ℕ). Skips (drop from text) r) (at_end (drop t.start text) (t.end - t.start) (n.row ∙ ap (λ (k : TokenKind). Some (k, t.end - t.start)) e)) n.skips
-
-pub end_only : (text : List ℕ) (from : ℕ) (r : Result Token LexFault) → IfOk r (λ t. IsNext text from t) → IfOk r (λ t. t.kind ≡ kinds.End → OnlyBlank text from)
-end_only text from (Ok t) n = blank_end text from t n
-end_only text from (Err f) n = tt
+    subst (λ (r : List ℕ). Skips (drop from text) r) (is_end (drop t.start text) (t.end - t.start) (n.row ∙ ap (λ (k : TokenKind). Some (k, t.end - t.start)) e)) n.skips
 
 next_end : (text : List ℕ) (from : ℕ) → from ≤ length text → OnlyBlank text from → IsNext text from (end_of text)
 next_end text from le blank =
     let none : [] ≡ drop (length text) text = sym (drop-length text) in
-    let zero : 0 ≡ length text - length text = omega arith in
     record {
       skips = subst (λ (r : List ℕ). Skips (drop from text) r) none blank;
-      row = ap token_at (sym none) ∙ ap (λ (n : ℕ). Some (kinds.End, n)) zero;
+      token = subst (λ (r : List ℕ). IsToken r kinds.End r) none at_end;
       after = le;
       order = omega arith;
       within = omega arith;
     }
 
-pub each_end : (text : List ℕ) (from : ℕ) (r : Result Token LexFault) → IfOk r (λ t. IsNext text from t) → IfErr r (λ f. IsFault text from f.at) → from ≤ length text → OnlyBlank text from → r ≡ Ok (end_of text)
-each_end text from r n f le blank = each_token text from r n f (end_of text) (next_end text from le blank)
+-- what a lexer's call answers, from what is found: v is what its fields say, r what a caller sees
+pub token_here : (v r : Reading) (t : Token) → v ≡ r → Finds v.text v.reached t → IsNext r.text r.reached t
+token_here v r t e n = next_of r.text r.reached t (subst (λ (u : Reading). Finds u.text u.reached t) e n)
 
--- the fault at which a lexer stopped
-pub fault_of : (v r : Reading) (f : LexFault) → v ≡ r → v.stopped ≡ Some f → IfSome v.stopped (λ f. IsFault v.text v.reached f.at) → IsFault r.text r.reached f.at
-fault_of v r f e is held =
-    subst (λ (u : Reading). IsFault u.text u.reached f.at) e (subst (λ (o : Option LexFault). IfSome o (λ f. IsFault v.text v.reached f.at)) is held)
+pub each_token_here : (v r : Reading) (u : Token) → v ≡ r → Finds v.text v.reached u → (t : Token) → IsNext r.text r.reached t → u ≡ t
+each_token_here v r u e n t m = one_next r.text r.reached u t (subst (λ (s : Reading). Finds s.text s.reached u) e n) m
 
-pub reached_within : (v r : Reading) → v ≡ r → v.reached ≤ length v.text → r.reached ≤ length r.text
-reached_within v r e le = subst (λ (u : Reading). u.reached ≤ length u.text) e le
+pub no_fault_here : (v r : Reading) (u : Token) → v ≡ r → Finds v.text v.reached u → (at : ℕ) → IsFault r.text r.reached at → ⊥
+no_fault_here v r u e n at f = no_fault r.text r.reached at u (subst (λ (s : Reading). Finds s.text s.reached u) e n) f
 
-pub end_shown : (v r : Reading) (t : Token) → v ≡ r → IsNext v.text v.reached t → t.kind ≡ kinds.End → OnlyBlank r.text r.reached
-end_shown v r t e n = blank_end r.text r.reached t (subst (λ (u : Reading). IsNext u.text u.reached t) e n)
+pub end_here : (v r : Reading) (t : Token) → v ≡ r → Finds v.text v.reached t → t.kind ≡ kinds.End → OnlyBlank r.text r.reached
+end_here v r t e n = blank_end r.text r.reached t (subst (λ (u : Reading). Finds u.text u.reached t) e n)
 
--- the token as a row of the table
-next_row : (text : List ℕ) (from : ℕ) (t : Token) → IsNext text from t → t.kind ≢ kinds.End → IsLongest (drop t.start text) t.kind (drop t.end text)
-next_row text from t n other =
-    let order = n.order in
-    let behind : t.start + (t.end - t.start) ≡ t.end = omega arith in
-    let here : drop (t.end - t.start) (drop t.start text) ≡ drop t.end text = drop-drop (t.end - t.start) t.start text ∙ ap (λ (m : ℕ). drop m text) behind in
-    subst (λ (r : List ℕ). IsLongest (drop t.start text) t.kind r) here (is_longest (drop t.start text) t.kind (t.end - t.start) n.row other)
+pub each_end_here : (v r : Reading) (u : Token) → v ≡ r → Finds v.text v.reached u → v.reached ≤ length v.text → OnlyBlank r.text r.reached → u ≡ end_of r.text
+each_end_here v r u e n le blank =
+    each_token_here v r u e n (end_of r.text) (next_end r.text r.reached (subst (λ (s : Reading). s.reached ≤ length s.text) e le) blank)
 
-pub row_shown : (v r : Reading) (t : Token) → v ≡ r → IsNext v.text v.reached t → t.kind ≢ kinds.End → IsLongest (drop t.start r.text) t.kind (drop t.end r.text)
-row_shown v r t e n = next_row r.text r.reached t (subst (λ (u : Reading). IsNext u.text u.reached t) e n)
+pub fault_here : (v r : Reading) (f : LexFault) → v ≡ r → FindsNone v.text v.reached f.at → IsFault r.text r.reached f.at
+fault_here v r f e n = fault_is r.text r.reached f.at (subst (λ (u : Reading). FindsNone u.text u.reached f.at) e n)
 
-pub no_row_shown : (text : List ℕ) (from at : ℕ) → IsFault text from at → NoRow (drop at text)
-no_row_shown text from at f = no_row (drop at text) f.none
+pub no_token_here : (v r : Reading) (f : LexFault) → v ≡ r → FindsNone v.text v.reached f.at → (t : Token) → IsNext r.text r.reached t → ⊥
+no_token_here v r f e n t m = no_next r.text r.reached f.at t (subst (λ (u : Reading). FindsNone u.text u.reached f.at) e n) m
 
-pub no_row_here : (v r : Reading) (f : LexFault) → v ≡ r → IsFault v.text v.reached f.at → NoRow (drop f.at r.text)
-no_row_here v r f e h = subst (λ (u : Reading). NoRow (drop f.at u.text)) e (no_row_shown v.text v.reached f.at h)
+pub each_fault_here : (v r : Reading) (f : LexFault) → v ≡ r → FindsNone v.text v.reached f.at → (at : ℕ) → IsFault r.text r.reached at → f ≡ record { at = at }
+each_fault_here v r f e n at g = ap (λ (i : ℕ). record { at = i }) (one_fault r.text r.reached f.at at (subst (λ (u : Reading). FindsNone u.text u.reached f.at) e n) g)
+
+pub no_end_here : (v r : Reading) (f : LexFault) → v ≡ r → FindsNone v.text v.reached f.at → v.reached ≤ length v.text → OnlyBlank r.text r.reached → ⊥
+no_end_here v r f e n le blank =
+    no_token_here v r f e n (end_of r.text) (next_end r.text r.reached (subst (λ (s : Reading). s.reached ≤ length s.text) e le) blank)
+
+pub held : (v : Reading) (f : LexFault) → v.stopped ≡ Some f → IfSome v.stopped (λ f. FindsNone v.text v.reached f.at) → FindsNone v.text v.reached f.at
+held v f is h = subst (λ (o : Option LexFault). IfSome o (λ f. FindsNone v.text v.reached f.at)) is h

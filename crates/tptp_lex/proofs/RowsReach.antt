@@ -1,6 +1,8 @@
 -- No row of the table goes on further than what the lexer takes.
-use Rattle.std.proofs.Common.{◌≡◌, ℕ, suc, ◌+◌, ◌-◌, ◌<◌, ◌≤◌, Bool, true, false, cond, List, [], ◌∷◌, ◌++◌, length, drop, length-drop, Option, Some, None, refl, sym, ◌∙◌, ap, subst, arith}
-use Rattle.std.specs.Prelude.{◌≢◌, ◌==◌, ◌&&◌, ◌||◌, not, nat_lt}
+use Rattle.std.proofs.Common.{◌≡◌, ℕ, suc, ◌+◌, ◌-◌, ◌<◌, ◌≤◌, Bool, true, false, cond, List, [], ◌∷◌, ◌++◌, length, take, drop, length-drop, Option, Some, None, refl, sym, ◌∙◌, ap, subst, arith, inl, inr, ◌⊎◌}
+use Rattle.std.proofs.Math.Seq.{take-append_seam}
+use Rattle.std.proofs.lemmas.Bool.{cases_lt}
+use Rattle.std.specs.Prelude.{◌==◌, ◌&&◌, ◌||◌, not, nat_lt}
 use Rattle.std.specs.Option.{option_map}
 use Rattle.std.specs.List.{find}
 use Rattle.std.proofs.lemmas.List.{length-append}
@@ -17,7 +19,7 @@ use Rattle.tptp_lex.specs.Numbers.{is_digit, digit_first, fraction, signed_digit
 use Rattle.tptp_lex.specs.Signs.{spelling, begins}
 use Rattle.tptp_lex.specs.Tokens.{token_at, marked_length, sign_token, number_or, number_or_sign}
 use Rattle.tptp_lex.specs.Rows.{Run, none, one, is_plain, Inside, closing, plain, escaped, Digits, digits, Fraction, no_fraction, fraction_digits, Exponent, no_exponent, exponent_digits, Row, lower, upper, dollar, dollars, quoted, distinct, number, signed_number, sign, IsLongest, NoRow}
-use Rattle.tptp_lex.proofs.LongestSign.{first_is_longest, sign_found}
+use Rattle.tptp_lex.proofs.LongestSign.{first_is_longest, sign_found, has_byte, same_spelling}
 use Rattle.tptp_lex.proofs.RowsFit.{token_fits, Fits}
 
 false_true : ◌≡◌ {A = Bool} false true → ⊥
@@ -72,18 +74,18 @@ plain_back mark b h = grind (arith, nat_tests)
 plain_range : (mark b : ℕ) → is_plain mark b ≡ true → (nat_lt b 32 || nat_lt 126 b) ≡ false
 plain_range mark b h = grind (arith, nat_tests)
 
--- what is found goes at least as far as the rest
-abbrev Reaches : List ℕ → List ℕ → Option (TokenKind × ℕ) → Type 0
-Reaches bytes rest None = ⊥
-Reaches bytes rest (Some p) = length bytes ≤ p.1 + length rest
+-- what is found goes at least as far as the rest, and further if it is of another kind
+abbrev Reaches : TokenKind → List ℕ → List ℕ → Option (TokenKind × ℕ) → Type 0
+Reaches kind bytes rest None = ⊥
+Reaches kind bytes rest (Some p) = (length bytes ≤ p.1 + length rest) × ((p.0 ≡ kind) ⊎ (length bytes < p.1 + length rest))
 
-yes : (bytes rest : List ℕ) (t : Bool) (x y : Option (TokenKind × ℕ)) → t ≡ true → Reaches bytes rest x → Reaches bytes rest (cond t x y)
-yes bytes rest true x y h r = r
-yes bytes rest false x y h r = absurd (false_true h)
+yes : (kind : TokenKind) (bytes rest : List ℕ) (t : Bool) (x y : Option (TokenKind × ℕ)) → t ≡ true → Reaches kind bytes rest x → Reaches kind bytes rest (cond t x y)
+yes kind bytes rest true x y h r = r
+yes kind bytes rest false x y h r = absurd (false_true h)
 
-no : (bytes rest : List ℕ) (t : Bool) (x y : Option (TokenKind × ℕ)) → t ≡ false → Reaches bytes rest y → Reaches bytes rest (cond t x y)
-no bytes rest true x y h r = absurd (true_false h)
-no bytes rest false x y h r = r
+no : (kind : TokenKind) (bytes rest : List ℕ) (t : Bool) (x y : Option (TokenKind × ℕ)) → t ≡ false → Reaches kind bytes rest y → Reaches kind bytes rest (cond t x y)
+no kind bytes rest true x y h r = absurd (true_false h)
+no kind bytes rest false x y h r = r
 
 run_most : (test : ℕ → Bool) (bytes rest : List ℕ) → Run test bytes rest → length bytes ≤ run test bytes + length rest
 run_most test bytes rest none = omega arith
@@ -94,16 +96,16 @@ run_most test bytes rest (one {b = b} {bytes = others} h r) =
 abbrev dollar_of : ℕ → TokenKind × ℕ
 dollar_of n = (kinds.Dollar, 1 + n)
 
-dollar_word : (bytes rest : List ℕ) (n : ℕ) (t : Bool) → t ≡ true → length bytes ≤ 1 + (1 + n) + length rest → Reaches bytes rest (option_map dollar_of (cond t (Some (1 + n)) None))
-dollar_word bytes rest n true h r = omega arith
+dollar_word : (bytes rest : List ℕ) (n : ℕ) (t : Bool) → t ≡ true → length bytes ≤ 1 + (1 + n) + length rest → Reaches kinds.Dollar bytes rest (option_map dollar_of (cond t (Some (1 + n)) None))
+dollar_word bytes rest n true h r = (r, inl refl)
 dollar_word bytes rest n false h r = absurd (false_true h)
 
-dollar_first : (bytes rest : List ℕ) (t : Bool) (x y : Option ℕ) → t ≡ false → Reaches bytes rest (option_map dollar_of y) → Reaches bytes rest (option_map dollar_of (cond t x y))
+dollar_first : (bytes rest : List ℕ) (t : Bool) (x y : Option ℕ) → t ≡ false → Reaches kinds.Dollar bytes rest (option_map dollar_of y) → Reaches kinds.Dollar bytes rest (option_map dollar_of (cond t x y))
 dollar_first bytes rest true x y h r = absurd (true_false h)
 dollar_first bytes rest false x y h r = r
 
-dollars_word : (bytes rest : List ℕ) (n : ℕ) (t : Bool) → t ≡ true → length bytes ≤ 1 + (1 + (1 + n)) + length rest → Reaches bytes rest (option_map dollar_of (option_map (λ n. 1 + n) (cond t (Some (1 + n)) None)))
-dollars_word bytes rest n true h r = omega arith
+dollars_word : (bytes rest : List ℕ) (n : ℕ) (t : Bool) → t ≡ true → length bytes ≤ 1 + (1 + (1 + n)) + length rest → Reaches kinds.Dollar bytes rest (option_map dollar_of (option_map (λ n. 1 + n) (cond t (Some (1 + n)) None)))
+dollars_word bytes rest n true h r = (r, inl refl)
 dollars_word bytes rest n false h r = absurd (false_true h)
 
 -- up to the closing mark
@@ -136,13 +138,13 @@ closes_most mark bytes rest m (escaped {b = b} {bytes = others} h i) =
     (closes_yes (b ∷ others) rest (b == mark || b == 92) _ _ h
     (one_on b others rest (closes mark false others) (closes_most mark others rest m i))))
 
-quoted_on : (bytes rest : List ℕ) (o : Option ℕ) → Closes bytes rest o → Reaches (39 ∷ bytes) rest (option_map (λ n. (kinds.Quoted, 1 + n)) o)
+quoted_on : (bytes rest : List ℕ) (o : Option ℕ) → Closes bytes rest o → Reaches kinds.Quoted (39 ∷ bytes) rest (option_map (λ n. (kinds.Quoted, 1 + n)) o)
 quoted_on bytes rest None c = c
-quoted_on bytes rest (Some n) c = omega arith
+quoted_on bytes rest (Some n) c = (omega arith, inl refl)
 
-distinct_on : (bytes rest : List ℕ) (o : Option ℕ) → Closes bytes rest o → Reaches (34 ∷ bytes) rest (option_map (λ n. (kinds.Distinct, 1 + n)) o)
+distinct_on : (bytes rest : List ℕ) (o : Option ℕ) → Closes bytes rest o → Reaches kinds.Distinct (34 ∷ bytes) rest (option_map (λ n. (kinds.Distinct, 1 + n)) o)
 distinct_on bytes rest None c = c
-distinct_on bytes rest (Some n) c = omega arith
+distinct_on bytes rest (Some n) c = (omega arith, inl refl)
 
 -- digits, and what may follow them
 run_first : (b : ℕ) (bytes : List ℕ) → is_digit b ≡ true → run is_digit (b ∷ bytes) ≡ suc (run is_digit bytes)
@@ -229,22 +231,22 @@ unsigned_most : (bytes middle behind rest : List ℕ) → Digits bytes middle �
 unsigned_most bytes middle behind rest (digits {b = b} {bytes = others} h r) f e =
     let most = then_most behind_digits (b ∷ others) middle rest (one h r) (fraction_most middle behind rest f e) (fraction_digit middle behind rest f e) in omega arith
 
-number_yes : (bytes rest : List ℕ) (t : Bool) (n : ℕ) (y : Option ℕ) (o : Option (TokenKind × ℕ)) → t ≡ true → length bytes ≤ n + length rest → Reaches bytes rest (number_or (cond t (Some n) y) o)
-number_yes bytes rest true n y o h le = le
+number_yes : (bytes rest : List ℕ) (t : Bool) (n : ℕ) (y : Option ℕ) (o : Option (TokenKind × ℕ)) → t ≡ true → length bytes ≤ n + length rest → Reaches kinds.Number bytes rest (number_or (cond t (Some n) y) o)
+number_yes bytes rest true n y o h le = (le, inl refl)
 number_yes bytes rest false n y o h le = absurd (false_true h)
 
-number_no : (bytes rest : List ℕ) (t : Bool) (x y : Option ℕ) (o : Option (TokenKind × ℕ)) → t ≡ false → Reaches bytes rest (number_or y o) → Reaches bytes rest (number_or (cond t x y) o)
-number_no bytes rest true x y o h r = absurd (true_false h)
-number_no bytes rest false x y o h r = r
+number_no : (kind : TokenKind) (bytes rest : List ℕ) (t : Bool) (x y : Option ℕ) (o : Option (TokenKind × ℕ)) → t ≡ false → Reaches kind bytes rest (number_or y o) → Reaches kind bytes rest (number_or (cond t x y) o)
+number_no kind bytes rest true x y o h r = absurd (true_false h)
+number_no kind bytes rest false x y o h r = r
 
 -- a byte that begins no other row
-other_first : (b : ℕ) (bytes rest : List ℕ) → is_small b ≡ false → is_capital b ≡ false → (b == 36) ≡ false → (b == 39) ≡ false → (b == 34) ≡ false → Reaches (b ∷ bytes) rest (number_or_sign (b ∷ bytes)) → Reaches (b ∷ bytes) rest (token_at (b ∷ bytes))
-other_first b bytes rest p q d s t r =
-    no (b ∷ bytes) rest (is_small b) _ _ p
-    (no (b ∷ bytes) rest (is_capital b) _ _ q
-    (no (b ∷ bytes) rest (b == 36) _ _ d
-    (no (b ∷ bytes) rest (b == 39) _ _ s
-    (no (b ∷ bytes) rest (b == 34) _ _ t r))))
+other_first : (kind : TokenKind) (b : ℕ) (bytes rest : List ℕ) → is_small b ≡ false → is_capital b ≡ false → (b == 36) ≡ false → (b == 39) ≡ false → (b == 34) ≡ false → Reaches kind (b ∷ bytes) rest (number_or_sign (b ∷ bytes)) → Reaches kind (b ∷ bytes) rest (token_at (b ∷ bytes))
+other_first kind b bytes rest p q d s t r =
+    no kind (b ∷ bytes) rest (is_small b) _ _ p
+    (no kind (b ∷ bytes) rest (is_capital b) _ _ q
+    (no kind (b ∷ bytes) rest (b == 36) _ _ d
+    (no kind (b ∷ bytes) rest (b == 39) _ _ s
+    (no kind (b ∷ bytes) rest (b == 34) _ _ t r))))
 
 both : (s t : Bool) → s ≡ true → t ≡ true → (s && t) ≡ true
 both true t p q = q
@@ -257,18 +259,37 @@ sign_here bytes = sign_token (find (begins bytes) SIGNS)
 sign_begins : (s : Sign) (rest : List ℕ) → begins (spelling s ++ rest) s ≡ true
 sign_begins s rest = (starts_is Decides-eqb (spelling s ++ rest) (spelling s) (begins (spelling s ++ rest) s) refl).1 rest refl
 
-found_case : (s : Sign) (rest : List ℕ) (o : Option Sign) → find (begins (spelling s ++ rest)) SIGNS ≡ o → Reaches (spelling s ++ rest) rest (sign_token o)
+unsigned_some : (bytes : List ℕ) → digit_first bytes ≡ true → 1 ≤ unsigned bytes
+unsigned_some [] h = absurd (false_true h)
+unsigned_some (b ∷ bytes) h = (let first = run_first b bytes h in omega arith)
+
+same_front : (s t : Sign) (rest behind : List ℕ) → spelling s ++ rest ≡ spelling t ++ behind → length (spelling s) ≡ length (spelling t) → spelling s ≡ spelling t
+same_front s t rest behind e n =
+    sym (take-append_seam (spelling s) rest)
+    ∙ ap (take (length (spelling s))) e
+    ∙ ap (λ (m : ℕ). take m (spelling t ++ behind)) n
+    ∙ take-append_seam (spelling t) behind
+
+found_kind : (s t : Sign) (rest : List ℕ) → begins (spelling s ++ rest) t ≡ true → length (spelling s) ≤ length (spelling t) → (length (spelling s) < length (spelling t)) ⊎ (length (spelling t) ≤ length (spelling s)) → ◌⊎◌ (◌≡◌ {A = TokenKind} (kinds.Sign t) (kinds.Sign s)) (length (spelling s ++ rest) < length (spelling t) + length rest)
+found_kind s t rest h le (inl lt) = (let sum : length (spelling s ++ rest) ≡ length (spelling s) + length rest = length-append (spelling s) rest in inr (omega arith))
+found_kind s t rest h le (inr ge) =
+    let e = (starts_is Decides-eqb (spelling s ++ rest) (spelling t) (begins (spelling s ++ rest) t) refl).0 h in
+    let n : length (spelling s) ≡ length (spelling t) = omega arith in
+    inl (ap (λ (u : Sign). kinds.Sign u) (sym (same_spelling s t (same_front s t rest _ e n))))
+
+found_case : (s : Sign) (rest : List ℕ) (o : Option Sign) → find (begins (spelling s ++ rest)) SIGNS ≡ o → Reaches (kinds.Sign s) (spelling s ++ rest) rest (sign_token o)
 found_case s rest None e = sign_found (spelling s ++ rest) s (sign_begins s rest) e
 found_case s rest (Some t) e =
-    let le = (first_is_longest (spelling s ++ rest) t e).longest s (sign_begins s rest) in
+    let found = first_is_longest (spelling s ++ rest) t e in
+    let le = found.longest s (sign_begins s rest) in
     let sum : length (spelling s ++ rest) ≡ length (spelling s) + length rest = length-append (spelling s) rest in
-    omega arith
+    (omega arith, found_kind s t rest found.begins_with le (cases_lt (length (spelling s)) (length (spelling t))))
 
-plus_case : (c : ℕ) (rest : List ℕ) (t : Bool) (o : Option (TokenKind × ℕ)) → Reaches (c ∷ rest) rest o → Reaches (c ∷ rest) rest (number_or (cond t (Some (1 + unsigned rest)) None) o)
-plus_case c rest true o r = omega arith
-plus_case c rest false o r = r
+plus_case : (kind : TokenKind) (c : ℕ) (rest : List ℕ) (t : Bool) (o : Option (TokenKind × ℕ)) → digit_first rest ≡ t → Reaches kind (c ∷ rest) rest o → Reaches kind (c ∷ rest) rest (number_or (cond t (Some (1 + unsigned rest)) None) o)
+plus_case kind c rest true o h r = (let some = unsigned_some rest h in (omega arith, inr (omega arith)))
+plus_case kind c rest false o h r = r
 
-sign_reaches : (s : Sign) (rest : List ℕ) → Reaches (spelling s ++ rest) rest (sign_here (spelling s ++ rest)) → Reaches (spelling s ++ rest) rest (token_at (spelling s ++ rest))
+sign_reaches : (s : Sign) (rest : List ℕ) → Reaches (kinds.Sign s) (spelling s ++ rest) rest (sign_here (spelling s ++ rest)) → Reaches (kinds.Sign s) (spelling s ++ rest) rest (token_at (spelling s ++ rest))
 sign_reaches signs.Open rest r = r
 sign_reaches signs.Close rest r = r
 sign_reaches signs.OpenList rest r = r
@@ -294,14 +315,14 @@ sign_reaches signs.Arrow rest r = r
 sign_reaches signs.Star rest r = r
 sign_reaches signs.At rest r = r
 sign_reaches signs.Caret rest r = r
-sign_reaches signs.Plus rest r = plus_case 43 rest (digit_first rest) (sign_here (43 ∷ rest)) r
-sign_reaches signs.Minus rest r = plus_case 45 rest (digit_first rest) (sign_here (45 ∷ rest)) r
+sign_reaches signs.Plus rest r = plus_case (kinds.Sign signs.Plus) 43 rest (digit_first rest) (sign_here (43 ∷ rest)) refl r
+sign_reaches signs.Minus rest r = plus_case (kinds.Sign signs.Minus) 45 rest (digit_first rest) (sign_here (45 ∷ rest)) refl r
 
-reaches : (kind : TokenKind) (bytes rest : List ℕ) → Row kind bytes rest → Reaches bytes rest (token_at bytes)
+reaches : (kind : TokenKind) (bytes rest : List ℕ) → Row kind bytes rest → Reaches kind bytes rest (token_at bytes)
 reaches kind bytes rest (lower {b = b} {bytes = others} h r) =
-    yes (b ∷ others) rest (is_small b) _ _ h (let most = run_most is_word others rest r in omega arith)
+    yes kinds.Lower (b ∷ others) rest (is_small b) _ _ h (let most = run_most is_word others rest r in (omega arith, inl refl))
 reaches kind bytes rest (upper {b = b} {bytes = others} h r) =
-    no (b ∷ others) rest (is_small b) _ _ (capital_small b h) (yes (b ∷ others) rest (is_capital b) _ _ h (let most = run_most is_word others rest r in omega arith))
+    no kinds.Upper (b ∷ others) rest (is_small b) _ _ (capital_small b h) (yes kinds.Upper (b ∷ others) rest (is_capital b) _ _ h (let most = run_most is_word others rest r in (omega arith, inl refl)))
 reaches kind bytes rest (dollar {b = b} {bytes = others} h r) =
     dollar_first (36 ∷ b ∷ others) rest (b == 36) _ _ (small_dollar b h)
     (dollar_word (36 ∷ b ∷ others) rest (run is_word others) (is_small b) h (let most = run_most is_word others rest r in omega arith))
@@ -312,32 +333,46 @@ reaches kind bytes rest (quoted {b = b} {bytes = others} h i) =
 reaches kind bytes rest (distinct {b = b} {bytes = others} h i) =
     distinct_on (b ∷ others) rest (marked_length 34 (b ∷ others)) (closes_no (b ∷ others) rest (b == 34) _ _ h (closes_most 34 (b ∷ others) rest refl i))
 reaches kind bytes rest (number {middle = middle} {behind = behind} (digits {b = b} {bytes = others} h r) f e) =
-    other_first b others rest (digit_small b h) (digit_capital b h) (digit_not b 36 (omega arith) h) (digit_not b 39 (omega arith) h) (digit_not b 34 (omega arith) h)
+    other_first kinds.Number b others rest (digit_small b h) (digit_capital b h) (digit_not b 36 (omega arith) h) (digit_not b 39 (omega arith) h) (digit_not b 34 (omega arith) h)
     (number_yes (b ∷ others) rest (is_digit b) (unsigned (b ∷ others)) _ _ h (unsigned_most (b ∷ others) middle behind rest (digits h r) f e))
 reaches kind bytes rest (signed_number {sign = c} {bytes = others} {middle = middle} {behind = behind} h d f e) =
-    other_first c others rest (sign_small c h) (sign_capital c h) (sign_not c 36 (omega arith) h) (sign_not c 39 (omega arith) h) (sign_not c 34 (omega arith) h)
-    (number_no (c ∷ others) rest (is_digit c) _ _ _ (sign_digit c h)
+    other_first kinds.Number c others rest (sign_small c h) (sign_capital c h) (sign_not c 36 (omega arith) h) (sign_not c 39 (omega arith) h) (sign_not c 34 (omega arith) h)
+    (number_no kinds.Number (c ∷ others) rest (is_digit c) _ _ _ (sign_digit c h)
     (number_yes (c ∷ others) rest ((c == 43 || c == 45) && digit_first others) (1 + unsigned others) _ _ (both (c == 43 || c == 45) (digit_first others) h (digits_first others middle d))
     (let most = unsigned_most others middle behind rest d f e in omega arith)))
 reaches kind bytes rest (sign {s = s} e) =
-    subst (λ (xs : List ℕ). Reaches xs rest (token_at xs)) (sym e) (sign_reaches s rest (found_case s rest (find (begins (spelling s ++ rest)) SIGNS) refl))
-
-some_same : (x y : TokenKind × ℕ) → Some x ≡ Some y → x ≡ y
-some_same x y e = cc
-
-end_kind : (x : TokenKind × ℕ) → Some (kinds.End, 0) ≡ Some x → x.0 ≡ kinds.End
-end_kind x e = sym (ap (λ (p : TokenKind × ℕ). p.0) (some_same (kinds.End, 0) x e))
+    subst (λ (xs : List ℕ). Reaches (kinds.Sign s) xs rest (token_at xs)) (sym e) (sign_reaches s rest (found_case s rest (find (begins (spelling s ++ rest)) SIGNS) refl))
 
 -- what the table has is the longest of its rows
-pub is_longest : (bytes : List ℕ) (kind : TokenKind) (n : ℕ) → token_at bytes ≡ Some (kind, n) → kind ≢ kinds.End → IsLongest bytes kind (drop n bytes)
-is_longest [] kind n e other = absurd (other (end_kind (kind, n) e))
-is_longest (b ∷ bytes) kind n e other = record {
+pub is_longest : (b : ℕ) (bytes : List ℕ) (kind : TokenKind) (n : ℕ) → token_at (b ∷ bytes) ≡ Some (kind, n) → IsLongest (b ∷ bytes) kind (drop n (b ∷ bytes))
+is_longest b bytes kind n e = record {
   row = subst (λ (o : Option (TokenKind × ℕ)). Fits (b ∷ bytes) o) e (token_fits b bytes);
   longest = λ k behind r. (
-      let far : length (b ∷ bytes) ≤ n + length behind = subst (λ (o : Option (TokenKind × ℕ)). Reaches (b ∷ bytes) behind o) e (reaches k (b ∷ bytes) behind r) in
+      let far : length (b ∷ bytes) ≤ n + length behind = (subst (λ (o : Option (TokenKind × ℕ)). Reaches k (b ∷ bytes) behind o) e (reaches k (b ∷ bytes) behind r)).0 in
       let left : length (drop n (b ∷ bytes)) ≡ length (b ∷ bytes) - n = length-drop n (b ∷ bytes) in
       omega arith);
 }
 
 pub no_row : (bytes : List ℕ) → token_at bytes ≡ None → NoRow bytes
-no_row bytes e kind rest r = subst (λ (o : Option (TokenKind × ℕ)). Reaches bytes rest o) e (reaches kind bytes rest r)
+no_row bytes e kind rest r = subst (λ (o : Option (TokenKind × ℕ)). Reaches kind bytes rest o) e (reaches kind bytes rest r)
+
+-- no row has the empty text
+pub empty_row : (kind : TokenKind) (rest : List ℕ) → Row kind [] rest → ⊥
+empty_row kind rest (number {middle = middle} d f e) = false_true (digits_first [] middle d)
+empty_row kind rest (sign {s = s} e) =
+    let some = has_byte s in
+    let sum : 0 ≡ length (spelling s) + length rest = ap length e ∙ length-append (spelling s) rest in
+    absurd (omega arith)
+
+not_further : (k kind : TokenKind) (m n : ℕ) → n ≤ m → (k ≡ kind) ⊎ (m < n) → k ≡ kind
+not_further k kind m n le (inl e) = e
+not_further k kind m n le (inr lt) = absurd (omega arith)
+
+-- what the longest row has is what the table has
+pub same_longest : (b : ℕ) (bytes : List ℕ) (kind k : TokenKind) (n : ℕ) (rest : List ℕ) → token_at (b ∷ bytes) ≡ Some (k, n) → n ≤ length (b ∷ bytes) → IsLongest (b ∷ bytes) kind rest → (k ≡ kind) × (length rest + n ≡ length (b ∷ bytes))
+same_longest b bytes kind k n rest e within l =
+    let far = subst (λ (o : Option (TokenKind × ℕ)). Reaches kind (b ∷ bytes) rest o) e (reaches kind (b ∷ bytes) rest l.row) in
+    let most = l.longest k (drop n (b ∷ bytes)) (is_longest b bytes k n e).row in
+    let left : length (drop n (b ∷ bytes)) ≡ length (b ∷ bytes) - n = length-drop n (b ∷ bytes) in
+    let le = far.0 in
+    (not_further k kind (length (b ∷ bytes)) (n + length rest) (omega arith) far.1, omega arith)

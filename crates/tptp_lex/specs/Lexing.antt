@@ -1,10 +1,11 @@
 -- The tokens of a text, one after another.
-use Rattle.std.specs.Prelude.{◌≡◌, ◌≤◌, ℕ, ◌-◌, List, [], length, drop, Option, Some, None}
+use Rattle.std.specs.Prelude.{◌≢◌, ◌≤◌, ℕ, List, [], length, drop, Option}
 use Rattle.tptp_lex.specs.declared.lexer.Token.{Token}
 use Rattle.tptp_lex.specs.declared.token.TokenKind.TheVariants.{End}
 use Rattle.tptp_lex.specs.declared.lexer.LexFault.{LexFault}
+use Rattle.tptp_lex.specs.declared.token.TokenKind.{TokenKind}
 use Rattle.tptp_lex.specs.Blank.{Skips}
-use Rattle.tptp_lex.specs.Tokens.{token_at}
+use Rattle.tptp_lex.specs.Rows.{IsLongest, NoRow}
 
 -- What is known of a lexer: its text, the place behind the last token, and the fault at which it stopped, if it did.
 pub record Reading : Type 0 where
@@ -12,18 +13,24 @@ pub record Reading : Type 0 where
   pub reached : ℕ
   pub stopped : Option LexFault
 
--- The token is the first from this place on: white space and comments lead to its start, and the table has it there.
+-- What the bytes begin with: the longest token of the table, or the end where no byte is left.
+pub data IsToken : List ℕ → TokenKind → List ℕ → Type 0 where
+  at_end : IsToken [] End []
+  in_table : {bytes rest : List ℕ} {kind : TokenKind} → IsLongest bytes kind rest → IsToken bytes kind rest
+
+-- The token is the first from this place on: white space and comments lead to its start, and there it stands.
 pub record IsNext (text : List ℕ) (from : ℕ) (t : Token) : Type 0 where
   pub skips : Skips (drop from text) (drop t.start text)
-  pub row : token_at (drop t.start text) ≡ Some (t.kind, t.end - t.start)
+  pub token : IsToken (drop t.start text) t.kind (drop t.end text)
   pub after : from ≤ t.start
   pub order : t.start ≤ t.end
   pub within : t.end ≤ length text
 
--- White space and comments lead to a place where no token begins.
+-- White space and comments lead to a place where a byte is left and no token begins.
 pub record IsFault (text : List ℕ) (from at : ℕ) : Type 0 where
   pub skips : Skips (drop from text) (drop at text)
-  pub none : token_at (drop at text) ≡ None
+  pub more : drop at text ≢ []
+  pub none : NoRow (drop at text)
   pub after : from ≤ at
   pub within : at ≤ length text
 

@@ -16,7 +16,7 @@ pub data Run : (ℕ → Bool) → List ℕ → List ℕ → Type 0 where
 abbrev pub is_plain : ℕ → ℕ → Bool
 is_plain mark b = between 32 126 b && not (b == mark) && not (b == 92)
 
--- Plain bytes, and backslashes each with the mark or a backslash behind it, up to the closing mark.
+-- Plain bytes, and backslashes (92) each with the mark or a backslash behind it, up to the closing mark.
 pub data Inside : ℕ → List ℕ → List ℕ → Type 0 where
   closing : {mark b : ℕ} {rest : List ℕ} → (b == mark) ≡ true → Inside mark (b ∷ rest) rest
   plain : {mark b : ℕ} {bytes rest : List ℕ} → is_plain mark b ≡ true → Inside mark bytes rest → Inside mark (b ∷ bytes) rest
@@ -26,12 +26,12 @@ pub data Inside : ℕ → List ℕ → List ℕ → Type 0 where
 pub data Digits : List ℕ → List ℕ → Type 0 where
   digits : {b : ℕ} {bytes rest : List ℕ} → is_digit b ≡ true → Run is_digit bytes rest → Digits (b ∷ bytes) rest
 
--- Optionally a point or a stroke, and digits.
+-- Optionally a point (46) or a stroke (47), and digits.
 pub data Fraction : List ℕ → List ℕ → Type 0 where
   no_fraction : {rest : List ℕ} → Fraction rest rest
   fraction_digits : {b : ℕ} {bytes rest : List ℕ} → (b == 46 || b == 47) ≡ true → Digits bytes rest → Fraction (b ∷ bytes) rest
 
--- Optionally E or e, a sign, and digits.
+-- Optionally E (69) or e (101), a sign (+ is 43, - is 45), and digits.
 pub data Exponent : List ℕ → List ℕ → Type 0 where
   no_exponent : {rest : List ℕ} → Exponent rest rest
   exponent_digits : {b sign : ℕ} {bytes rest : List ℕ} → (b == 69 || b == 101) ≡ true → (sign == 43 || sign == 45) ≡ true → Digits bytes rest → Exponent (b ∷ sign ∷ bytes) rest

