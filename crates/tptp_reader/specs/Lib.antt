@@ -1,5 +1,3 @@
-pub mod Tokens
 pub mod Raw
-pub mod Grammar
-pub mod SlowReader
+pub mod Limits
 pub mod View

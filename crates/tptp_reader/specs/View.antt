@@ -1,87 +1,81 @@
--- What the program's values stand for, and what its functions give.
-use Rattle.std.specs.Prelude.{◌≡◌, ◌<◌, ◌≤◌, ℕ, false, List, length, slice_index, slice_range, Option, Some, None, Result, Ok, Err}
-use Rattle.std.specs.Borrow.{Bor}
-use Rattle.tptp_reader.specs.declared.token.Lexeme.{Lexeme}
-use Rattle.tptp_reader.specs.declared.token.Lexeme.TheVariants as lexemes
-use Rattle.tptp_reader.specs.declared.form.RawRole.{RawRole}
-use Rattle.tptp_reader.specs.declared.form.RawForm.{RawForm, fold-RawForm}
-use Rattle.tptp_reader.specs.declared.form.RawForm.TheOpen.{RawForm-F}
+-- The trees that the program's values stand for.
+use Rattle.std.specs.Prelude.{ℕ, List, [], ◌∷◌, map, Option, Some, None}
+use Rattle.std.specs.Option.{option_map}
+use Rattle.tptp_reader.specs.declared.tree.RawType.{RawType, fold-RawType}
+use Rattle.tptp_reader.specs.declared.tree.RawType.TheOpen as type_layer
+use Rattle.tptp_reader.specs.declared.tree.RawTerm.{RawTerm, fold-RawTerm}
+use Rattle.tptp_reader.specs.declared.tree.RawTerm.TheOpen as term_layer
+use Rattle.tptp_reader.specs.declared.tree.RawForm.{RawForm, fold-RawForm}
+use Rattle.tptp_reader.specs.declared.tree.RawForm.TheOpen as form_layer
+use Rattle.tptp_reader.specs.declared.tree.RawVar.{RawVar}
+use Rattle.tptp_reader.specs.declared.tree.RawTop.{RawTop}
 use Rattle.tptp_reader.specs.declared.statement.Body.{Body}
 use Rattle.tptp_reader.specs.declared.statement.Body.TheVariants as bodies
 use Rattle.tptp_reader.specs.declared.statement.Statement.{Statement}
-use Rattle.tptp_reader.specs.declared.statement.Read.{Read}
-use Rattle.tptp_reader.specs.declared.statement.Read.TheVariants as reads
-use Rattle.tptp_reader.specs.declared.refusal.ReadRefusal.{ReadRefusal}
-use Rattle.tptp_reader.specs.declared.refusal.ReadRefusal.TheVariants.{NotBuilt, Memory}
-use Rattle.tptp_reader.specs.declared.built.Built as outcomes
-use Rattle.tptp_reader.specs.declared.built.Built.TheVariants as variants
-use Rattle.tptp_reader.specs.declared.built.Joint.{Joint}
-use Rattle.tptp_reader.specs.declared.built.Joint.TheVariants as joints
-use Rattle.tptp_reader.specs.Tokens.{Next, lower, sign, is_white, OnlyWhite}
-use Rattle.tptp_reader.specs.Raw.{Raw, atom, negation, conjunction, disjunction, implication, RawStatement, formula}
-use Rattle.tptp_reader.specs.SlowReader.{Kept, whole, too_deep, kept_two}
+use Rattle.tptp_reader.specs.Raw as raw
+use Rattle.tptp_reader.specs.Raw.{Connective, Quantifier}
 
--- a token of the program, with the bytes behind it
-abbrev pub seen : Lexeme → List ℕ → Next
-seen (lexemes.Lower word) rest = lower word.now rest
-seen (lexemes.Sign s) rest = sign s rest
+abbrev pub raw_types_of : List raw.RawType → raw.RawTypes
+raw_types_of [] = raw.RawTypes.none
+raw_types_of (t ∷ ts) = raw.RawTypes.more t (raw_types_of ts)
 
--- one level of a formula, with the formulas inside it already seen
-abbrev pub form_step : RawForm-F Raw → Raw
-form_step (RawForm-F.Plain name) = atom name
-form_step (RawForm-F.Not f) = negation f
-form_step (RawForm-F.And f g) = conjunction f g
-form_step (RawForm-F.Or f g) = disjunction f g
-form_step (RawForm-F.Imp f g) = implication f g
+abbrev pub raw_terms_of : List raw.RawTerm → raw.RawTerms
+raw_terms_of [] = raw.RawTerms.none
+raw_terms_of (u ∷ us) = raw.RawTerms.more u (raw_terms_of us)
 
--- the formula that a formula of the program stands for
-abbrev pub form_tree : RawForm → Raw
-form_tree = fold-RawForm Raw form_step
+-- one level of a tree, with the trees inside it already seen
+abbrev pub step_of_raw_type : type_layer.RawType-F raw.RawType → raw.RawType
+step_of_raw_type type_layer.Individual = raw.RawType.individual
+step_of_raw_type type_layer.Truth = raw.RawType.truth
+step_of_raw_type type_layer.Kind = raw.RawType.kind
+step_of_raw_type (type_layer.Var x) = raw.RawType.variable x
+step_of_raw_type (type_layer.Name c ts) = raw.RawType.named c (raw_types_of ts)
 
-abbrev pub body_tree : Body → RawStatement
-body_tree (bodies.Formula name role form) = formula name role (form_tree form)
+abbrev pub raw_type_tree : RawType → raw.RawType
+raw_type_tree = fold-RawType raw.RawType step_of_raw_type
+
+abbrev pub raw_types_tree : List RawType → raw.RawTypes
+raw_types_tree ts = raw_types_of (map raw_type_tree ts)
+
+abbrev pub step_of_raw_term : term_layer.RawTerm-F raw.RawTerm → raw.RawTerm
+step_of_raw_term term_layer.Individual = raw.RawTerm.individual
+step_of_raw_term term_layer.Truth = raw.RawTerm.truth
+step_of_raw_term (term_layer.Var x) = raw.RawTerm.variable x
+step_of_raw_term (term_layer.Name f us) = raw.RawTerm.named f (raw_terms_of us)
+
+abbrev pub raw_term_tree : RawTerm → raw.RawTerm
+raw_term_tree = fold-RawTerm raw.RawTerm step_of_raw_term
+
+abbrev pub raw_terms_tree : List RawTerm → raw.RawTerms
+raw_terms_tree us = raw_terms_of (map raw_term_tree us)
+
+abbrev pub raw_variable_tree : RawVar → raw.RawVariable
+raw_variable_tree v = record { name = v.name; type = option_map raw_type_tree v.ty }
+
+abbrev pub step_of_raw_form : form_layer.RawForm-F raw.RawForm → raw.RawForm
+step_of_raw_form form_layer.True = raw.RawForm.truth
+step_of_raw_form form_layer.False = raw.RawForm.falsity
+step_of_raw_form (form_layer.Plain u) = raw.RawForm.plain (raw_term_tree u)
+step_of_raw_form (form_layer.Equal a b) = raw.RawForm.equal (raw_term_tree a) (raw_term_tree b)
+step_of_raw_form (form_layer.Not f) = raw.RawForm.negation f
+step_of_raw_form (form_layer.And f g) = raw.RawForm.binary Connective.conjunction f g
+step_of_raw_form (form_layer.Or f g) = raw.RawForm.binary Connective.disjunction f g
+step_of_raw_form (form_layer.Imp f g) = raw.RawForm.binary Connective.implication f g
+step_of_raw_form (form_layer.Iff f g) = raw.RawForm.binary Connective.equivalence f g
+step_of_raw_form (form_layer.All v f) = raw.RawForm.quantified Quantifier.universal (raw_variable_tree v) f
+step_of_raw_form (form_layer.Ex v f) = raw.RawForm.quantified Quantifier.existential (raw_variable_tree v) f
+
+abbrev pub raw_form_tree : RawForm → raw.RawForm
+raw_form_tree = fold-RawForm raw.RawForm step_of_raw_form
+
+abbrev pub raw_top_tree : RawTop → raw.RawTop
+raw_top_tree t = record { binders = map raw_variable_tree t.binders; arguments = raw_types_tree t.arguments; result = raw_type_tree t.result }
+
+abbrev pub body_tree : Body → raw.RawStatement
+body_tree (bodies.Formula name role form) = raw.RawStatement.formula name role (raw_form_tree form)
+body_tree (bodies.Typing name subject declared) = raw.RawStatement.typing name subject (raw_top_tree declared)
+body_tree (bodies.Include file names) = raw.RawStatement.inclusion file names
 
 -- the statement that a statement of the program stands for; its place is no part of it
-abbrev pub statement_tree : Statement → RawStatement
+abbrev pub statement_tree : Statement → raw.RawStatement
 statement_tree s = body_tree s.body
-
-abbrev pub kept_tree : outcomes.Built → Kept
-kept_tree (variants.Whole f n) = whole (form_tree f) n
-kept_tree variants.TooDeep = too_deep
-
--- a name, a role and what is kept of a formula
-abbrev pub statement_kept : Bor (List ℕ) × RawRole × outcomes.Built → List ℕ × RawRole × Kept
-statement_kept t = (t.0.now, t.1, kept_tree t.2)
-
-abbrev pub joint_made : Joint → Raw → Raw → Raw
-joint_made joints.And f g = conjunction f g
-joint_made joints.Or f g = disjunction f g
-joint_made joints.Imp f g = implication f g
-
-abbrev pub joint_kept : Joint → Kept → Kept → Kept
-joint_kept joint = kept_two 1000 (joint_made joint)
-
--- What a function returned, with the bytes that it left, is what the slow reader gives, unless memory ran out.
-abbrev pub Gives : {T A : Type 0} → (T → A) → Result T ReadRefusal → List ℕ → Option (A × List ℕ) → Type 0
-Gives view (Ok x) rest read = read ≡ Some (view x, rest)
-Gives view (Err NotBuilt) rest read = read ≡ None
-Gives view (Err Memory) rest read = Unit {0}
-
--- the same of a function that gives no value
-abbrev pub Leaves : Result (Unit {0}) ReadRefusal → List ℕ → Option (List ℕ) → Type 0
-Leaves (Ok x) rest read = read ≡ Some rest
-Leaves (Err NotBuilt) rest read = read ≡ None
-Leaves (Err Memory) rest read = Unit {0}
-
--- The claim holds of the statement that was read and of the place behind it, if one was.
-abbrev pub IfStatement : Result Read ReadRefusal → (Statement → ℕ → Type 0) → Type 0
-IfStatement (Ok (reads.Statement s after)) claim = claim s after
-IfStatement (Ok reads.End) claim = Unit {0}
-IfStatement (Err refusal) claim = Unit {0}
-
--- The first token from one place on stands at another: white space alone lies between them.
-pub record IsFirstToken (bytes : List ℕ) (from place : ℕ) : Type 0 where
-  pub order : from ≤ place
-  pub within : place < length bytes
-  pub white : OnlyWhite (slice_range bytes from place)
-  pub token : is_white (slice_index bytes place) ≡ false
