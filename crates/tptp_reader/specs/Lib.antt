@@ -1,3 +1,9 @@
 pub mod Raw
 pub mod Limits
 pub mod View
+pub mod Tokens
+pub mod Brackets
+pub mod Rows
+pub mod Grammar
+pub mod Answers
+pub mod Parsing

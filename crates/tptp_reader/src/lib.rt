@@ -1,6 +1,8 @@
 //! Reads the statements of the TPTP languages FOF and TFF1 from bytes, one at a time.
 #![tactic(auto)]
 
+mod cursor;
+mod lexeme;
 mod refusal;
 mod statement;
 mod text;

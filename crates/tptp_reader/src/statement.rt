@@ -24,7 +24,10 @@ pub enum Body {
         declared: RawTop,
     },
     /// The statements of another file, or those of them that have one of the names.
-    Include { file: Text, names: Option<Texts> },
+    Include {
+        file: Text,
+        names: Option<Texts>,
+    },
 }
 
 /// What stands next in a text: a statement, with the place behind it, or nothing but white space and comments.
