@@ -1,6 +1,6 @@
 -- The reader's limits on statements.
 use Rattle.std.specs.Prelude.{◌≤◌, ℕ, List}
-use Rattle.tptp_reader.specs.Raw.{RawForm, RawTop, RawStatement, raw_type_depth, raw_term_depth, written_depth, raw_depth}
+use Rattle.tptp_reader.specs.Raw.{RawForm, RawTop, RawStatement, raw_type_depth, raw_types_depth, raw_term_depth, written_depth, raw_depth}
 
 -- A level of a term or a type needs a bracket, and 200 brackets nest: each is at most 201 deep.
 abbrev pub IsNested : RawForm → Type 0
@@ -15,5 +15,5 @@ IsNested (RawForm.quantified q v f) = (written_depth v.type ≤ 201) × IsNested
 -- within the reader's limits: a formula is at most 1000 deep
 abbrev pub IsWithinLimits : RawStatement → Type 0
 IsWithinLimits (RawStatement.formula name role f) = IsNested f × (raw_depth f ≤ 1000)
-IsWithinLimits (RawStatement.typing name subject top) = raw_type_depth top.result ≤ 201
+IsWithinLimits (RawStatement.typing name subject top) = (raw_types_depth top.arguments ≤ 201) × (raw_type_depth top.result ≤ 201)
 IsWithinLimits (RawStatement.inclusion file names) = Unit {0}
