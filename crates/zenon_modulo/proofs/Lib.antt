@@ -1,11 +1,11 @@
-pub mod Misuses
-pub mod Picks
-pub mod NameLists
-pub mod Gathered
-pub mod TextsRead
-pub mod NameCounts
-pub mod Spelled
-pub mod SymbolNames
-pub mod Answered
-pub mod OneReading
-pub mod TypedProblem
+mod Answered
+mod CallsAnswered
+mod ClapOptions
+mod Commands
+mod Dashes
+mod FileText
+mod LettersAlone
+mod Picks
+mod Printed
+mod SymbolNames
+mod TextAnswered

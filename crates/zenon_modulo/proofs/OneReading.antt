@@ -1,37 +1,46 @@
--- A text has one problem, and words have one fault.
-use Rattle.std.proofs.Common.{ℕ, ◌≡◌, List, [], ◌∷◌, codes, Some, refl, ap, sym, ◌∙◌}
-use Rattle.tptp_reader.proofs.Places.{same_text}
+-- Words are one command at most, or one thing is the first that is wrong with them; and a text spells one problem at most.
+use Rattle.std.proofs.Common.{ℕ, ◌≡◌, ◌≢◌, List, [], ◌∷◌, map, codes, get_or, Option, Some, None, Ok, refl, sym, ap, ap₂, subst, ◌∙◌, arith}
+use Rattle.zm_base.specs.Library.{NamedFile}
 use Rattle.zm_logic.specs.Tree.{Problem}
-use Rattle.zenon_modulo.specs.Words.{Word, Misuse, IsCommand, IsMisuse}
-use Rattle.zenon_modulo.specs.Reading.{Spells, problem_in}
+use Rattle.tptp_include.specs.Gathering.{Placed, Outcome, GathersAll}
+use Rattle.tptp_include.proofs.Outcomes.{one_outcome}
+use Rattle.tff_typing.specs.Statements.{problem_in}
+use Rattle.zenon_modulo.specs.Words.{Word, Operand, Command, Misuse, IsOperand, IsNumber, AllowsSteps, AreOptions, IsCommand, IsMisuse, steps_text}
+use Rattle.zenon_modulo.specs.Input.{Name, name_of, Makes, IsText, Spells}
 
-pub one_problem : (bytes : List ℕ) (p q : Problem) → Spells bytes p → Spells bytes q → p ≡ q
-one_problem bytes p q s t = some_same (sym s.makes ∙ ap problem_in (same_text bytes s.statements t.statements s.text t.text) ∙ t.makes)
-  where
-    some_same : Some p ≡ Some q → p ≡ q
-    some_same h = cc
+one_operand : (word : Word) (a b : Operand) → IsOperand word a → IsOperand word b → a ≡ b
+one_operand word a b IsOperand.hyphen IsOperand.hyphen = refl
+one_operand word a b IsOperand.hyphen (IsOperand.name n) = absurd (n refl)
+one_operand word a b (IsOperand.name n) IsOperand.hyphen = absurd (n refl)
+one_operand word a b (IsOperand.name n) (IsOperand.name m) = refl
+
+one_allowance : (text : Option Word) (m n : ℕ) → AllowsSteps text m → AllowsSteps text n → m ≡ n
+one_allowance None m n a b = a ∙ sym b
+one_allowance (Some text) m n a b = sym a.0.value ∙ b.0.value
+
+command_same : (c d : Command) → c.operand ≡ d.operand → c.steps ≡ d.steps → c ≡ d
+command_same c d e f = ap₂ (λ o s. record { operand = o; steps = s }) e f
+
+pub one_command : (words : List Word) (c d : Command) → IsCommand words c → IsCommand words d → c ≡ d
+one_command words c d (IsCommand.prove {word = word} {options = options} o a) (IsCommand.prove p b) =
+    command_same c d (one_operand word c.operand d.operand o p) (one_allowance (steps_text options) c.steps d.steps a.steps_allowed b.steps_allowed)
+
+pub no_misuse : (words : List Word) (c : Command) (m : Misuse) → IsCommand words c → IsMisuse words m → ⊥
+no_misuse words c m (IsCommand.prove o a) (IsMisuse.unknown_mode n) = n refl
+no_misuse words c m (IsCommand.prove o a) (IsMisuse.bad_operand n) = n c.operand o
+no_misuse words c m (IsCommand.prove o a) (IsMisuse.bad_options p n) = n c.steps a
 
 pub one_misuse : (words : List Word) (m n : Misuse) → IsMisuse words m → IsMisuse words n → m ≡ n
 one_misuse words m n IsMisuse.no_mode IsMisuse.no_mode = refl
-one_misuse words m n (IsMisuse.unknown_mode h) (IsMisuse.unknown_mode k) = refl
-one_misuse words m n (IsMisuse.unknown_mode h) IsMisuse.no_operand = absurd (h refl)
-one_misuse words m n (IsMisuse.unknown_mode h) (IsMisuse.bad_operand k) = absurd (h refl)
-one_misuse words m n (IsMisuse.unknown_mode h) IsMisuse.bad_options = absurd (h refl)
-one_misuse words m n IsMisuse.no_operand (IsMisuse.unknown_mode k) = absurd (k refl)
+one_misuse words m n (IsMisuse.unknown_mode a) (IsMisuse.unknown_mode b) = refl
+one_misuse words m n (IsMisuse.unknown_mode a) IsMisuse.no_operand = absurd (a refl)
+one_misuse words m n (IsMisuse.unknown_mode a) (IsMisuse.bad_operand b) = absurd (a refl)
+one_misuse words m n (IsMisuse.unknown_mode a) (IsMisuse.bad_options p b) = absurd (a refl)
+one_misuse words m n IsMisuse.no_operand (IsMisuse.unknown_mode b) = absurd (b refl)
 one_misuse words m n IsMisuse.no_operand IsMisuse.no_operand = refl
-one_misuse words m n (IsMisuse.bad_operand h) (IsMisuse.unknown_mode k) = absurd (k refl)
-one_misuse words m n (IsMisuse.bad_operand h) (IsMisuse.bad_operand k) = refl
-one_misuse words m n (IsMisuse.bad_operand h) IsMisuse.bad_options = absurd (h refl)
-one_misuse words m n IsMisuse.bad_options (IsMisuse.unknown_mode k) = absurd (k refl)
-one_misuse words m n IsMisuse.bad_options (IsMisuse.bad_operand k) = absurd (k refl)
-one_misuse words m n IsMisuse.bad_options IsMisuse.bad_options = refl
-
-no_misuse_of : (words : List Word) (m : Misuse) → IsMisuse words m → words ≡ codes "prove" ∷ codes "-" ∷ [] → ⊥
-no_misuse_of words m IsMisuse.no_mode e = cc
-no_misuse_of words m (IsMisuse.unknown_mode {mode = w} h) e = h (cc)
-no_misuse_of words m IsMisuse.no_operand e = cc
-no_misuse_of words m (IsMisuse.bad_operand {operand = w} h) e = h (cc)
-no_misuse_of words m IsMisuse.bad_options e = cc
-
-pub no_misuse : (words : List Word) (m : Misuse) → IsCommand words → IsMisuse words m → ⊥
-no_misuse words m c h = no_misuse_of words m h c
+one_misuse words m n (IsMisuse.bad_operand a) (IsMisuse.unknown_mode b) = absurd (b refl)
+one_misuse words m n (IsMisuse.bad_operand a) (IsMisuse.bad_operand b) = refl
+one_misuse words m n (IsMisuse.bad_operand a) (IsMisuse.bad_options {operand = operand} p b) = absurd (a operand p)
+one_misuse words m n (IsMisuse.bad_options q a) (IsMisuse.unknown_mode b) = absurd (b refl)
+one_misuse words m n (IsMisuse.bad_options {operand = operand} q a) (IsMisuse.bad_operand b) = absurd (b operand q)
+one_misuse words m n (IsMisuse.bad_options q a) (IsMisuse.bad_options p b) = refl

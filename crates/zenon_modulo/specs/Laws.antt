@@ -1,17 +1,18 @@
 -- Statements about the definitions, for contracts to name.
-use Rattle.std.specs.Prelude.{ℕ, ◌≡◌, List}
+use Rattle.std.specs.Prelude.{ℕ, ◌≡◌, List, Option}
+use Rattle.zm_base.specs.Library.{NamedFile}
 use Rattle.zm_logic.specs.Tree.{Problem}
-use Rattle.zm_logic.specs.Problem.{IsTypedProblem}
-use Rattle.zenon_modulo.specs.Words.{Word, Misuse, IsCommand, IsMisuse}
-use Rattle.zenon_modulo.specs.Reading.{Spells}
+use Rattle.zenon_modulo.specs.Words.{Word, Operand, Command, Misuse, IsCommand, IsMisuse}
+use Rattle.zenon_modulo.specs.Input.{Spells}
 
--- bytes spell at most one problem
+-- the text of an operand spells at most one problem
 abbrev pub SpelledProblemsAreEqual : Type 0
-SpelledProblemsAreEqual = (bytes : List ℕ) (p q : Problem) → Spells bytes p → Spells bytes q → p ≡ q
+SpelledProblemsAreEqual = (operand : Operand) (files : List NamedFile) (text : Option (List ℕ)) (p q : Problem)
+    → Spells operand files text p → Spells operand files text q → p ≡ q
 
--- the problem that bytes spell is a typed problem
-abbrev pub SpelledProblemsAreTyped : Type 0
-SpelledProblemsAreTyped = (bytes : List ℕ) (p : Problem) → Spells bytes p → IsTypedProblem p
+-- words are at most one command
+abbrev pub CommandsAreEqual : Type 0
+CommandsAreEqual = (words : List Word) (c d : Command) → IsCommand words c → IsCommand words d → c ≡ d
 
 -- at most one thing is the first that is wrong with words
 abbrev pub MisusesAreEqual : Type 0
@@ -19,4 +20,4 @@ MisusesAreEqual = (words : List Word) (m n : Misuse) → IsMisuse words m → Is
 
 -- nothing is wrong with a command
 abbrev pub CommandsAreNotMisused : Type 0
-CommandsAreNotMisused = (words : List Word) (m : Misuse) → IsCommand words → IsMisuse words m → ⊥
+CommandsAreNotMisused = (words : List Word) (c : Command) (m : Misuse) → IsCommand words c → IsMisuse words m → ⊥

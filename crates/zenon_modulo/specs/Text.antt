@@ -1,5 +1,5 @@
 -- What is written for an answer, as a list of bytes.
-use Rattle.std.specs.Prelude.{ℕ, ◌-◌, Bool, codes, decimal, cond, List, [], ◌∷◌, ◌++◌, map, flat_map, slice_index_or}
+use Rattle.std.specs.Prelude.{ℕ, Bool, codes, decimal, cond, List, [], ◌∷◌, ◌++◌, map, flat_map}
 use Rattle.zm_logic.specs.Tree.{Form, Problem}
 use Rattle.zm_logic.specs.Truth.{Valued}
 use Rattle.search.specs.Tableau.{Node, picks}
@@ -7,8 +7,8 @@ use Rattle.search.specs.Stopping.{Cause}
 use Rattle.search.specs.View.{tree_of, cause_of, valued_tree}
 use Rattle.zenon_modulo.specs.declared.outcome.Outcome.{Outcome}
 use Rattle.zenon_modulo.specs.declared.outcome.Outcome.TheVariants as outcomes
-use Rattle.zenon_modulo.specs.declared.outcome.InputRefusal.{InputRefusal}
-use Rattle.zenon_modulo.specs.declared.outcome.InputRefusal.TheVariants as refusals
+use Rattle.zenon_modulo.specs.Names.{Name, atom_text}
+use Rattle.zenon_modulo.specs.Message.{refusal_text}
 
 -- a comma before each further number
 abbrev pub further_picks : List ℕ → List ℕ
@@ -21,19 +21,14 @@ picks_text [] = []
 picks_text (k ∷ ks) = codes " " ++ decimal k ++ further_picks ks
 
 -- the names of the symbols of a problem, of which the first is that of symbol 1
-abbrev pub names_of : Problem → List (List ℕ)
-names_of p = map (λ s. s.name) p.symbols
-
--- an atom prints as its name; the first name is that of symbol 1
-abbrev pub atom_text : List (List ℕ) → Form → List ℕ
-atom_text names (Form.atom p types terms) = slice_index_or names (p - 1) []
-atom_text names f = []
+abbrev pub symbol_names : Problem → List Name
+symbol_names p = map (λ s. s.name) p.symbols
 
 abbrev pub truth_text : Bool → List ℕ
 truth_text b = cond b (codes " = true\n") (codes " = false\n")
 
 -- a line for each atom
-abbrev pub valuation_text : List (List ℕ) → List Valued → List ℕ
+abbrev pub valuation_text : List Name → List Valued → List ℕ
 valuation_text names v = flat_map (λ x. atom_text names x.atom ++ truth_text x.truth) v
 
 -- the name of a cause
@@ -46,7 +41,7 @@ abbrev pub proved_text : Node → List ℕ
 proved_text tree = codes "(; proved ;)\n(; picks:" ++ picks_text (picks tree) ++ codes " ;)\n"
 
 abbrev pub falsified_text : Problem → List Valued → List ℕ
-falsified_text p v = codes "falsified\n" ++ valuation_text (names_of p) v
+falsified_text p v = codes "falsified\n" ++ valuation_text (symbol_names p) v
 
 abbrev pub unknown_text : Cause → Node → List ℕ
 unknown_text why tree = codes "unknown: " ++ cause_text why ++ codes "\npicks:" ++ picks_text (picks tree) ++ codes "\n"
@@ -59,12 +54,9 @@ out_text p (outcomes.Unknown why tableau) = unknown_text (cause_of why) (tree_of
 out_text p (outcomes.Refused refusal) = []
 out_text p (outcomes.Usage refusal) = []
 out_text p outcomes.ReadFault = []
+out_text p outcomes.LibraryFault = []
 out_text p outcomes.WriteFault = []
 out_text p outcomes.Memory = []
-
-abbrev pub refusal_text : InputRefusal → List ℕ
-refusal_text refusals.NotBuilt = codes "refused: not built\n"
-refusal_text refusals.TooLarge = codes "refused: too large\n"
 
 -- how the program is called
 abbrev pub usage_text : List ℕ
@@ -78,5 +70,6 @@ diag_text (outcomes.Unknown why tableau) = []
 diag_text (outcomes.Refused refusal) = refusal_text refusal
 diag_text (outcomes.Usage refusal) = usage_text
 diag_text outcomes.ReadFault = codes "fault: read\n"
+diag_text outcomes.LibraryFault = codes "fault: library\n"
 diag_text outcomes.WriteFault = []
 diag_text outcomes.Memory = codes "out of memory\n"

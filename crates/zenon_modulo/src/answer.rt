@@ -1,84 +1,276 @@
-ghost use Rattle.std.specs.Prelude.{◌≡◌, ◌≤◌, List, [], length, map, string_bytes, IfOk};
+ghost use Rattle.std.specs.Prelude.{◌≡◌, ◌≤◌, ℕ, List, [], true, Option, length, map, string_bytes, IfOk, IfSome, Some, Err, ◌≢◌};
+ghost use Rattle.zm_base.specs.Outside.{Rose};
+ghost use Rattle.zm_base.specs.Library.{NamedFile, bytes_of};
 ghost use Rattle.zm_logic.specs.View.{problem_tree};
-ghost use Rattle.search.specs.Propositional.{IsPropositionalProblem};
-ghost use Rattle.zenon_modulo.specs.Words.{Word, IsCommand};
-ghost use Rattle.zenon_modulo.specs.Answer.{IsAnswer, input_limit};
-ghost use Rattle.zenon_modulo.specs.Report.{IsReport, AnswersProblem, AnswersTo, IsTextOf};
+ghost use Rattle.tptp_include.specs.Outcomes.{placed_of};
+ghost use Rattle.zenon_modulo.specs.Letters.{is_built as spec_is_built};
+ghost use Rattle.zenon_modulo.specs.Words.{Word, Operand as OperandTree, IsCommand};
+ghost use Rattle.zenon_modulo.specs.WordsRead.{command_tree};
+ghost use Rattle.zenon_modulo.specs.Input.{Name, IsGatheredFrom, Makes, input_limit};
+ghost use Rattle.zenon_modulo.specs.Outcome.{IfRefused};
+ghost use Rattle.zenon_modulo.specs.Answer.{IsAnswer, call_of};
+ghost use Rattle.zenon_modulo.specs.Writing.{IsTextOf};
+ghost use Rattle.zenon_modulo.specs.Report.{IsReport, IsRefusedOr, AnswersText, IsFile, IsFileRead, IsUngathered, IsMissing};
+ghost use Rattle.zenon_modulo.specs.Message.{refusal_text as spec_refusal_text};
 
+use crate::letters::is_built;
+use crate::message::refusal_text;
 use crate::outcome::{InputRefusal, Outcome};
-use crate::problem::ProblemStop;
 use crate::report::{Answer, report};
-use crate::statements::read_problem;
-use crate::words::{WordsStop, read_words};
+use crate::words::{Command, Operand, WordsStop, read_words};
 use search::search;
 use std::alloc::{AllocError, Global};
-use zm_base::{ReadStop, Source, read_to_limit};
-use zm_logic::Problem;
+use tff_typing::{TypeStop, type_problem};
+use tptp_include::{GatherRefusal, Gathered, gather};
+use tptp_reader::Text;
+use zm_base::{Got, LibFail, Library, ReadStop, Source, read_to_limit};
+use zm_logic::{Problem, TypedProblem};
 
-/// The greatest number of bytes of the input.
+/// The greatest number of bytes of the operand.
 pub const INPUT_LIMIT: usize = 16_777_216;
 
-/// The greatest number of Steps.
-pub const STEP_BUDGET: u32 = 100_000;
-
+// An answer that has no text of its own.
 fn plain(alloc: Global, outcome: Outcome) -> Answer
+    requires { IfRefused outcome (λ refusal. ⊥) }
     ensures outcome { result.outcome ≡ outcome }
     ensures text { result.text.items ≡ [] }
+    ensures message { IfRefused result.outcome (λ refusal. result.message.items ≡ spec_refusal_text refusal) }
 {
-    let text = Vec::new(alloc);
-    Answer { outcome, text }
+    Answer {
+        outcome,
+        text: Vec::new(alloc),
+        message: Vec::new(alloc),
+    }
+}
+
+// A refused input with its message, or want of memory for it.
+fn refused(alloc: Global, refusal: InputRefusal) -> Answer
+    ensures outcome { IsRefusedOr refusal result.outcome }
+    ensures text { result.text.items ≡ [] }
+    ensures message { IfRefused result.outcome (λ refusal. result.message.items ≡ spec_refusal_text refusal) }
+{
+    match refusal_text(alloc, &refusal) {
+        Ok(message) => Answer {
+            outcome: Outcome::Refused(refusal),
+            text: Vec::new(alloc),
+            message,
+        },
+        Err(AllocError) => {
+            drop(refusal);
+            plain(alloc, Outcome::Memory)
+        }
+    }
 }
 
 // Searches, and reports what was found.
-fn solve(alloc: Global, problem: &Problem) -> Result<Answer, AllocError>
-    requires { IsPropositionalProblem (problem_tree problem.now) }
-    ensures { IfOk result (λ a. IsReport (problem_tree problem.now) a.outcome a.text.items) }
+fn solve(alloc: Global, problem: &Problem, steps: u32) -> Result<Answer, AllocError>
+    requires { spec_is_built (problem_tree problem.now) ≡ true }
+    ensures { IfOk result (λ r. IsReport steps (problem_tree problem.now) r.outcome r.text.items) }
 {
-    let searched = search(alloc, problem, STEP_BUDGET)?;
-    report(alloc, problem, searched)
+    let searched = search(alloc, problem, steps)?;
+    report(alloc, problem, steps, searched)
 }
 
-fn answer_problem(alloc: Global, problem: &Problem) -> Answer
-    requires { IsPropositionalProblem (problem_tree problem.now) }
-    ensures { AnswersProblem (problem_tree problem.now) result.outcome result.text.items }
+// What is answered to a problem that is built.
+fn answer_built(alloc: Global, problem: &TypedProblem, steps: u32) -> Answer
+    requires { spec_is_built (problem_tree problem.now) ≡ true }
+    ensures answer { (files : Option (List NamedFile)) (name : Name) (bytes : List ℕ) → IfSome files (λ fs. Makes fs name bytes (problem_tree problem.now)) → AnswersText files name bytes steps result.outcome result.text.items }
+    ensures message { IfRefused result.outcome (λ refusal. result.message.items ≡ spec_refusal_text refusal) }
+    ensures library { result.outcome ≢ Outcome.LibraryFault }
 {
-    match solve(alloc, problem) {
+    match solve(alloc, problem.problem(), steps) {
         Ok(answer) => answer,
         Err(AllocError) => plain(alloc, Outcome::Memory),
     }
 }
 
-fn answer_bytes(alloc: Global, bytes: &[u8]) -> Answer
-    requires { length bytes.now ≤ input_limit }
-    ensures { AnswersTo bytes.now result.outcome result.text.items }
+// What is answered to a typed problem.
+fn answer_problem(alloc: Global, problem: &TypedProblem, steps: u32) -> Answer
+    ensures answer { (files : Option (List NamedFile)) (name : Name) (bytes : List ℕ) → IfSome files (λ fs. Makes fs name bytes (problem_tree problem.now)) → AnswersText files name bytes steps result.outcome result.text.items }
+    ensures message { IfRefused result.outcome (λ refusal. result.message.items ≡ spec_refusal_text refusal) }
+    ensures library { result.outcome ≢ Outcome.LibraryFault }
 {
-    match read_problem(alloc, bytes) {
-        Ok(problem) => answer_problem(alloc, &problem),
-        Err(ProblemStop::NotBuilt) => plain(alloc, Outcome::Refused(InputRefusal::NotBuilt)),
-        Err(ProblemStop::Memory) => plain(alloc, Outcome::Memory),
+    if is_built(problem.problem()) {
+        return answer_built(alloc, problem, steps);
+    }
+    refused(alloc, InputRefusal::NotBuilt)
+}
+
+// What is answered to gathered statements.
+fn answer_statements(alloc: Global, gathered: &Gathered, steps: u32) -> Answer
+    ensures answer { (files : Option (List NamedFile)) (name : Name) (bytes : List ℕ) → IfSome files (λ fs. IsGatheredFrom fs name bytes (map placed_of gathered.now)) → AnswersText files name bytes steps result.outcome result.text.items }
+    ensures message { IfRefused result.outcome (λ refusal. result.message.items ≡ spec_refusal_text refusal) }
+    ensures library { result.outcome ≢ Outcome.LibraryFault }
+{
+    match type_problem(alloc, gathered) {
+        Ok(problem) => answer_problem(alloc, &problem, steps),
+        Err(TypeStop::Refused(refusal)) => refused(alloc, InputRefusal::Typing(refusal)),
+        Err(TypeStop::Memory) => plain(alloc, Outcome::Memory),
     }
 }
 
-fn answer_input<S: Source>(alloc: Global, input: &mut S) -> Answer
-    ensures answered { (words : List Word) → IsCommand words → IsAnswer words (S.left input.old) (S.left input.new) (S.faults input.old) (S.faults input.new) result.outcome }
-    ensures text { IsTextOf (S.left input.old) result.outcome result.text.items }
+// What is answered where nothing is gathered.
+fn ungathered(alloc: Global, refusal: GatherRefusal) -> Answer
+    ensures answer { IsUngathered refusal result.outcome }
+    ensures text { result.text.items ≡ [] }
+    ensures message { IfRefused result.outcome (λ refusal. result.message.items ≡ spec_refusal_text refusal) }
+{
+    match refusal {
+        GatherRefusal::LibraryFault => plain(alloc, Outcome::LibraryFault),
+        GatherRefusal::Memory => plain(alloc, Outcome::Memory),
+        other => refused(alloc, InputRefusal::Gather(other)),
+    }
+}
+
+// What is answered to a text of this name.
+fn answer_text<L: Library>(
+    alloc: Global,
+    library: &mut L,
+    name: &str,
+    bytes: &[u8],
+    steps: u32,
+) -> Answer
+    requires { length bytes.now ≤ input_limit }
+    ensures answer { AnswersText (L.files library.old) name.now bytes.now steps result.outcome result.text.items }
+    ensures message { IfRefused result.outcome (λ refusal. result.message.items ≡ spec_refusal_text refusal) }
+    ensures later { L.faults library.old ≤ L.faults library.new }
+    ensures library { result.outcome ≡ Outcome.LibraryFault → Rose (L.faults library.old) (L.faults library.new) }
+{
+    match gather(alloc, library, name, bytes) {
+        Ok(gathered) => answer_statements(alloc, &gathered, steps),
+        Err(refusal) => ungathered(alloc, refusal),
+    }
+}
+
+// What is answered to the bytes of the source.
+fn answer_source<S: Source, L: Library>(
+    alloc: Global,
+    steps: u32,
+    input: &mut S,
+    library: &mut L,
+) -> Answer
+    ensures answered { (words : List Word) → IsCommand words (record { operand = OperandTree.source; steps = steps })
+        → IsAnswer (call_of words (S.left input.old) (S.left input.new) (S.faults input.old) (S.faults input.new) (L.files library.old) (L.faults library.old) (L.faults library.new)) result.outcome }
+    ensures text { (words : List Word) → IsCommand words (record { operand = OperandTree.source; steps = steps })
+        → IsTextOf (call_of words (S.left input.old) (S.left input.new) (S.faults input.old) (S.faults input.new) (L.files library.old) (L.faults library.old) (L.faults library.new)) result.outcome result.text.items }
+    ensures message { IfRefused result.outcome (λ refusal. result.message.items ≡ spec_refusal_text refusal) }
 {
     match read_to_limit(alloc, input, INPUT_LIMIT) {
-        Ok(bytes) => answer_bytes(alloc, &bytes),
+        Ok(bytes) => answer_text(alloc, library, "-", &bytes, steps),
         Err(ReadStop::Failed) => plain(alloc, Outcome::ReadFault),
-        Err(ReadStop::TooLarge) => plain(alloc, Outcome::Refused(InputRefusal::TooLarge)),
+        Err(ReadStop::TooLarge) => refused(alloc, InputRefusal::TooLarge),
         Err(ReadStop::Memory) => plain(alloc, Outcome::Memory),
     }
 }
 
-/// Reads the words and then the source, searches, and says what is to be answered, with all memory taken that the
-/// answer needs. It writes nothing.
-pub fn answer<S: Source>(alloc: Global, words: &[String], input: &mut S) -> Answer
-    ensures answered { IsAnswer (map string_bytes words.now) (S.left input.old) (S.left input.new) (S.faults input.old) (S.faults input.new) result.outcome }
-    ensures text { IsTextOf (S.left input.old) result.outcome result.text.items }
+/// Why a file isn't read.
+#[derive(Clone, Copy, Debug, PartialEq, Eq)]
+pub enum FileStop {
+    /// There is no such file.
+    Missing,
+    /// It has more than 16,777,216 bytes.
+    TooLarge,
+    /// The library failed.
+    Failed,
+    /// There was no memory.
+    Memory,
+}
+
+// What a library gave, if it is a file and not too large.
+fn file_bytes(got: Got) -> Result<Vec<u8>, FileStop>
+    ensures { IsFile (bytes_of got) result }
+{
+    match got {
+        Got::Bytes(bytes) => {
+            if bytes.len() > INPUT_LIMIT {
+                return Err(FileStop::TooLarge);
+            }
+            Ok(bytes)
+        }
+        Got::Missing => Err(FileStop::Missing),
+    }
+}
+
+// Reads the file of the operand.
+fn read_file<L: Library>(
+    alloc: Global,
+    library: &mut L,
+    name: &str,
+) -> Result<Vec<u8>, FileStop>
+    ensures read { IsFileRead (L.files library.old) name.now result }
+    ensures files { L.files library.new ≡ L.files library.old }
+    ensures later { L.faults library.old ≤ L.faults library.new }
+    ensures failed { result ≡ Err FileStop.Failed → Rose (L.faults library.old) (L.faults library.new) }
+{
+    match library.get(alloc, name, INPUT_LIMIT + 1) {
+        Ok(got) => file_bytes(got),
+        Err(LibFail::Failed) => Err(FileStop::Failed),
+        Err(LibFail::Memory) => Err(FileStop::Memory),
+    }
+}
+
+// What is answered where there is no file of the operand's name.
+fn missing(alloc: Global, name: &str) -> Answer
+    ensures outcome { IsMissing name.now result.outcome }
+    ensures text { result.text.items ≡ [] }
+    ensures message { IfRefused result.outcome (λ refusal. result.message.items ≡ spec_refusal_text refusal) }
+{
+    match Text::of(alloc, name) {
+        Ok(name) => refused(alloc, InputRefusal::Gather(GatherRefusal::Missing { name })),
+        Err(AllocError) => plain(alloc, Outcome::Memory),
+    }
+}
+
+// What is answered to a file.
+fn answer_file<L: Library>(alloc: Global, steps: u32, library: &mut L, name: &str) -> Answer
+    ensures answered { (words : List Word) (left : Option (List ℕ)) (faults : ℕ) → IsCommand words (record { operand = OperandTree.file name.now; steps = steps })
+        → IsAnswer (call_of words left left faults faults (L.files library.old) (L.faults library.old) (L.faults library.new)) result.outcome }
+    ensures text { (words : List Word) (left : Option (List ℕ)) (faults : ℕ) → IsCommand words (record { operand = OperandTree.file name.now; steps = steps })
+        → IsTextOf (call_of words left left faults faults (L.files library.old) (L.faults library.old) (L.faults library.new)) result.outcome result.text.items }
+    ensures message { IfRefused result.outcome (λ refusal. result.message.items ≡ spec_refusal_text refusal) }
+{
+    match read_file(alloc, library, name) {
+        Ok(bytes) => answer_text(alloc, library, name, &bytes, steps),
+        Err(FileStop::Missing) => missing(alloc, name),
+        Err(FileStop::TooLarge) => refused(alloc, InputRefusal::TooLarge),
+        Err(FileStop::Failed) => plain(alloc, Outcome::LibraryFault),
+        Err(FileStop::Memory) => plain(alloc, Outcome::Memory),
+    }
+}
+
+// What is answered to a command.
+fn answer_command<S: Source, L: Library>(
+    alloc: Global,
+    command: &Command,
+    input: &mut S,
+    library: &mut L,
+) -> Answer
+    ensures answered { (words : List Word) → IsCommand words (command_tree command.now)
+        → IsAnswer (call_of words (S.left input.old) (S.left input.new) (S.faults input.old) (S.faults input.new) (L.files library.old) (L.faults library.old) (L.faults library.new)) result.outcome }
+    ensures text { (words : List Word) → IsCommand words (command_tree command.now)
+        → IsTextOf (call_of words (S.left input.old) (S.left input.new) (S.faults input.old) (S.faults input.new) (L.files library.old) (L.faults library.old) (L.faults library.new)) result.outcome result.text.items }
+    ensures message { IfRefused result.outcome (λ refusal. result.message.items ≡ spec_refusal_text refusal) }
+{
+    match &command.operand {
+        Operand::Source => answer_source(alloc, command.steps, input, library),
+        Operand::File(name) => answer_file(alloc, command.steps, library, name.text()),
+    }
+}
+
+/// Reads the words and then the operand, gathers, types, searches, and says what is to be answered, with all memory taken
+/// that the answer needs. It writes nothing.
+pub fn answer<S: Source, L: Library>(
+    alloc: Global,
+    words: &[String],
+    input: &mut S,
+    library: &mut L,
+) -> Answer
+    ensures answered { IsAnswer (call_of (map string_bytes words.now) (S.left input.old) (S.left input.new) (S.faults input.old) (S.faults input.new) (L.files library.old) (L.faults library.old) (L.faults library.new)) result.outcome }
+    ensures text { IsTextOf (call_of (map string_bytes words.now) (S.left input.old) (S.left input.new) (S.faults input.old) (S.faults input.new) (L.files library.old) (L.faults library.old) (L.faults library.new)) result.outcome result.text.items }
+    ensures message { IfRefused result.outcome (λ refusal. result.message.items ≡ spec_refusal_text refusal) }
 {
     match read_words(alloc, words) {
-        Ok(()) => answer_input(alloc, input),
+        Ok(command) => answer_command(alloc, &command, input, library),
         Err(WordsStop::Usage(refusal)) => plain(alloc, Outcome::Usage(refusal)),
         Err(WordsStop::Memory) => plain(alloc, Outcome::Memory),
     }

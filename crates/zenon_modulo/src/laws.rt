@@ -1,15 +1,16 @@
 //! What the definitions come to, beside what the calls claim of them. Each function does nothing: its clause is the law.
-ghost use Rattle.zenon_modulo.specs.Laws.{SpelledProblemsAreEqual, SpelledProblemsAreTyped, MisusesAreEqual, CommandsAreNotMisused};
+ghost use Rattle.zenon_modulo.specs.Laws.{SpelledProblemsAreEqual, CommandsAreEqual, MisusesAreEqual, CommandsAreNotMisused};
 
-/// The bytes spell at most one problem. So the clauses of `run` speak of one and the same.
+/// The text of an operand spells at most one problem. So the clauses of `run` speak of one and the same.
+#[tactic(auto, using(crate::proofs::OneReading::one_problem))]
 pub fn spelled_problems_are_equal()
     ensures { SpelledProblemsAreEqual }
 {}
 
-/// The problem that bytes spell is a typed problem: its symbols are a signature whose names tell them apart, and its
-/// premises and its conjecture are well typed over them, without parameters and not too deep.
-pub fn spelled_problems_are_typed()
-    ensures { SpelledProblemsAreTyped }
+/// Words are at most one command.
+#[tactic(auto, using(crate::proofs::OneReading::one_command))]
+pub fn commands_are_equal()
+    ensures { CommandsAreEqual }
 {}
 
 /// The first thing that is wrong with the words is one.

@@ -1,88 +1,152 @@
-ghost use Rattle.std.specs.Prelude.{◌≡◌, ◌≤◌, length, map, OnOk, IfOk};
-ghost use Rattle.std.specs.Str.{bytes_eq};
-ghost use Rattle.tptp_reader.specs.View.{form_tree, statement_tree};
-ghost use Rattle.zenon_modulo.specs.Reading as reading;
+ghost use Rattle.std.specs.Prelude.{◌≡◌, ◌++◌, OnOk, map, codes, cond, true, decimal};
+ghost use Rattle.std.specs.List.{list_all};
+ghost use Rattle.tptp_lex.specs.Words.{is_word};
+ghost use Rattle.zm_logic.specs.View.{type_tree, types_tree, form_tree};
+ghost use Rattle.zenon_modulo.specs.Names as spec;
 
+use itoa::Buffer;
 use sqlite_items::Items;
-use std::alloc::{AllocError, Global};
-use tptp_reader::{Body, RawForm, Statement};
-use zm_logic::Text;
+use std::alloc::AllocError;
+use zm_logic::{Form, Symbol, Ty};
 
-fn is_named(name: &Text, wanted: &str) -> bool
-    ensures { result ≡ bytes_eq name.now wanted.now }
+fn is_word(byte: u8) -> bool
+    ensures { result ≡ is_word byte }
 {
-    name.text() == wanted
+    matches!(byte, b'a'..=b'z' | b'A'..=b'Z' | b'0'..=b'9' | b'_')
 }
 
-#[tactic(auto, using(crate::proofs::NameLists::has_here, crate::proofs::NameLists::has_later, crate::proofs::NameLists::has_end))]
-fn has_name(names: &[Text], wanted: &str) -> bool
-    ensures { result ≡ reading.has_name names.now wanted.now }
+#[tactic(auto, using(crate::proofs::Printed::words_here, crate::proofs::Printed::words_later, crate::proofs::Printed::words_end))]
+fn are_words(bytes: &[u8]) -> bool
+    ensures { result ≡ list_all is_word bytes.now }
 {
-    for name in names {
-        if is_named(name, wanted) {
-            return true;
+    for byte in bytes {
+        if !is_word(*byte) {
+            return false;
         }
     }
-    false
+    true
 }
 
-fn add_name(alloc: Global, names: &mut Items<Text>, name: &str) -> Result<(), AllocError>
-    ensures { OnOk result (names.new ≡ reading.add_name names.old name.now) }
+fn is_lower(name: &str) -> bool
+    ensures { result ≡ spec.is_lower name.now }
 {
-    if has_name(names.as_slice(), name) {
+    match name.as_bytes() {
+        [b'a'..=b'z', rest @ ..] => are_words(rest),
+        [_, ..] => false,
+        [] => false,
+    }
+}
+
+/// Adds a name, between quotes where it is no lower.
+pub fn push_name(text: &mut Vec<u8>, name: &str) -> Result<(), AllocError>
+    ensures { OnOk result (text.new.items ≡ text.old.items ++ spec.name_text name.now) }
+{
+    if is_lower(name) {
+        text.extend_from_slice(name.as_bytes())?;
         return Ok(());
     }
-    let name = Text::of(alloc, name)?;
-    names.push(name)
+    text.extend_from_slice(b"'")?;
+    text.extend_from_slice(name.as_bytes())?;
+    text.extend_from_slice(b"'")?;
+    Ok(())
 }
 
-fn add_names(alloc: Global, names: &mut Items<Text>, form: &RawForm) -> Result<(), AllocError>
-    ensures { OnOk result (names.new ≡ reading.add_names names.old (form_tree form.now)) }
+// Adds the name of the symbol at a place of the list, if there is one.
+#[tactic(auto, using(crate::proofs::Printed::nth_at, crate::proofs::Printed::nth_beyond))]
+fn push_nth(text: &mut Vec<u8>, symbols: &[Symbol], place: usize) -> Result<(), AllocError>
+    ensures { OnOk result (text.new.items ≡ text.old.items ++ spec.nth_text (map (λ s. s.name) symbols.now) place) }
 {
-    match form {
-        RawForm::Plain(name) => add_name(alloc, names, name.text()),
-        RawForm::Not(f) => add_names(alloc, names, f.get()),
-        RawForm::And(f, g) | RawForm::Or(f, g) | RawForm::Imp(f, g) => {
-            add_names(alloc, names, f.get())?;
-            add_names(alloc, names, g.get())
+    if place >= symbols.len() {
+        return Ok(());
+    }
+    push_name(text, symbols[place].name.text())
+}
+
+fn push_constructor(text: &mut Vec<u8>, symbols: &[Symbol], number: u32) -> Result<(), AllocError>
+    ensures { OnOk result (text.new.items ≡ text.old.items ++ spec.constructor_text (map (λ s. s.name) symbols.now) number) }
+{
+    if number == 0 {
+        text.extend_from_slice(b"$i")?;
+        return Ok(());
+    }
+    push_nth(text, symbols, number as usize - 1)
+}
+
+fn push_numbered(text: &mut Vec<u8>, letters: &[u8], number: u64) -> Result<(), AllocError>
+    ensures { OnOk result (text.new.items ≡ text.old.items ++ letters.now ++ decimal number) }
+{
+    let mut buffer = Buffer::new();
+    text.extend_from_slice(letters)?;
+    text.extend_from_slice(buffer.format(number).as_bytes())?;
+    Ok(())
+}
+
+/// Adds a type over these symbols, of which the first has the number 1.
+#[cycle(push_type)]
+pub fn push_type(text: &mut Vec<u8>, symbols: &[Symbol], ty: &Ty) -> Result<(), AllocError>
+    ensures { OnOk result (text.new.items ≡ text.old.items ++ spec.type_text (map (λ s. s.name) symbols.now) (type_tree ty.now)) }
+{
+    match ty {
+        Ty::Bound(n) => push_numbered(text, b"X", u64::from(*n)),
+        Ty::Param(n) => push_numbered(text, b"$$a", *n),
+        Ty::Meta(n) => push_numbered(text, b"$$b", *n),
+        Ty::Con(c, types) => {
+            push_constructor(text, symbols, c.0)?;
+            push_arguments(text, symbols, types)?;
+            push_closing(text, types)
         }
     }
 }
 
-fn add_names_of(
-    alloc: Global,
-    names: &mut Items<Text>,
-    statement: &Statement,
+// Adds the mark before an argument.
+fn push_mark(text: &mut Vec<u8>, is_first: bool) -> Result<(), AllocError>
+    ensures { OnOk result (text.new.items ≡ text.old.items ++ cond is_first (codes "(") (codes ",")) }
+{
+    text.extend_from_slice(if is_first { b"(" } else { b"," })?;
+    Ok(())
+}
+
+// Adds arguments, each behind its mark.
+#[cycle(push_type)]
+fn push_arguments(
+    text: &mut Vec<u8>,
+    symbols: &[Symbol],
+    types: &Items<Ty>,
 ) -> Result<(), AllocError>
-    ensures { OnOk result (names.new ≡ reading.names_added names.old (statement_tree statement.now)) }
+    ensures { OnOk result (text.new.items ≡ text.old.items ++ spec.marked_text (map (λ s. s.name) symbols.now) true (types_tree types.now)) }
 {
-    match &statement.body {
-        Body::Formula { form, .. } => add_names(alloc, names, form),
+    for (i, ty) in types.as_slice().iter().enumerate() {
+        push_mark(text, i == 0)?;
+        push_type(text, symbols, ty)?;
     }
+    Ok(())
 }
 
-#[tactic(auto, using(crate::proofs::NameLists::names_later, crate::proofs::NameLists::names_end))]
-/// The distinct names of the atoms of statements, in order of first appearance.
-pub fn names_in(alloc: Global, statements: &[Statement]) -> Result<Items<Text>, AllocError>
-    ensures { IfOk result (λ names. names ≡ reading.names_in (map statement_tree statements.now)) }
+// Adds the bracket behind the last argument, if there is one.
+#[tactic(auto, using(crate::proofs::Printed::closing_some))]
+fn push_closing(text: &mut Vec<u8>, types: &Items<Ty>) -> Result<(), AllocError>
+    ensures { OnOk result (text.new.items ≡ text.old.items ++ spec.closing_text (types_tree types.now)) }
 {
-    let mut names = Items::new(alloc);
-    for statement in statements {
-        add_names_of(alloc, &mut names, statement)?;
-    }
-    Ok(names)
-}
-
-#[tactic(auto, using(crate::proofs::NameLists::place_here, crate::proofs::NameLists::place_later, crate::proofs::NameLists::place_end))]
-/// The place of a name in a list of names, and the number of names where it isn't there.
-pub fn place_of(names: &[Text], wanted: &str) -> usize
-    ensures place { result ≡ reading.place_of names.now wanted.now }
-    ensures within { result ≤ length names.now }
-{
-    for (i, name) in names.iter().enumerate() {
-        if is_named(name, wanted) {
-            return i;
+    match types.as_slice() {
+        [] => Ok(()),
+        [_, ..] => {
+            text.extend_from_slice(b")")?;
+            Ok(())
         }
     }
-    names.len()
+}
+
+/// Adds an atom without arguments over these symbols, of which the first has the number 1.
+pub fn push_atom(text: &mut Vec<u8>, symbols: &[Symbol], atom: &Form) -> Result<(), AllocError>
+    ensures { OnOk result (text.new.items ≡ text.old.items ++ spec.atom_text (map (λ s. s.name) symbols.now) (form_tree atom.now)) }
+{
+    match atom {
+        Form::Atom(symbol, _, _) => {
+            if symbol.0 == 0 {
+                return Ok(());
+            }
+            push_nth(text, symbols, symbol.0 as usize - 1)
+        }
+        _ => Ok(()),
+    }
 }

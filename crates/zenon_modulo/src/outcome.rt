@@ -1,15 +1,19 @@
-ghost use Rattle.std.specs.Prelude.{◌≡◌};
-
 use crate::words::UsageRefusal;
 use search::{Closed, Open, Tableau, Valuation, Why};
+use tff_typing::TypeRefusal;
+use tptp_include::GatherRefusal;
 
 /// Why an input is refused.
-#[derive(Clone, Copy, Debug, PartialEq, Eq)]
+#[derive(Drop)]
 pub enum InputRefusal {
-    /// The input spells no problem of the language that is built.
-    NotBuilt,
-    /// The input has more than 16,777,216 bytes.
+    /// Nothing is gathered from the operand: there is no such file, its text isn't in the language, or an include fails.
+    Gather(GatherRefusal),
+    /// The statements are not well typed, or have a second conjecture.
+    Typing(TypeRefusal),
+    /// The operand has more than 16,777,216 bytes.
     TooLarge,
+    /// The problem is well typed, and holds a quantifier, an equality or an atom with arguments.
+    NotBuilt,
 }
 
 /// The answer of a call.
@@ -35,6 +39,8 @@ pub enum Outcome {
     Usage(UsageRefusal),
     /// The source failed.
     ReadFault,
+    /// The library failed.
+    LibraryFault,
     /// A sink failed.
     WriteFault,
     /// There was no memory.

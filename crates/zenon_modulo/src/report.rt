@@ -1,6 +1,5 @@
 ghost use Rattle.std.specs.Prelude.{◌≡◌, ◌≢◌, map, IfOk};
 ghost use Rattle.zm_logic.specs.View.{problem_tree};
-ghost use Rattle.search.specs.Propositional.{IsPropositionalProblem};
 ghost use Rattle.search.specs.Stopping.{Cause};
 ghost use Rattle.search.specs.View.{tree_of, cause_of, valued_tree};
 ghost use Rattle.zenon_modulo.specs.Answer.{IsCountermodel};
@@ -13,24 +12,38 @@ use search::{Closed, Open, Searched, Tableau, Valuation, Why, valuation_of};
 use std::alloc::{AllocError, Global};
 use zm_logic::Problem;
 
-/// An answer, and what is written for it to the sink for results.
+/// An answer, what is written for it to the sink for results, and what is told of a refused input.
 #[derive(Drop)]
 pub struct Answer {
     pub outcome: Outcome,
     pub text: Vec<u8>,
+    pub message: Vec<u8>,
+}
+
+// An answer to a search.
+fn reported(alloc: Global, outcome: Outcome, text: Vec<u8>) -> Answer
+    ensures outcome { result.outcome ≡ outcome }
+    ensures text { result.text ≡ text }
+{
+    Answer {
+        outcome,
+        text,
+        message: Vec::new(alloc),
+    }
 }
 
 fn report_proved(
     alloc: Global,
     problem: &Problem,
+    steps: u32,
     tableau: Tableau<Closed>,
 ) -> Result<Answer, AllocError>
-    requires { IsClosedFor (problem_tree problem.now) (tree_of tableau) }
-    ensures { IfOk result (λ a. IsReport (problem_tree problem.now) a.outcome a.text.items) }
+    requires { IsClosedFor steps (problem_tree problem.now) (tree_of tableau) }
+    ensures { IfOk result (λ r. IsReport steps (problem_tree problem.now) r.outcome r.text.items) }
 {
     let text = proved_text(alloc, &tableau)?;
     let outcome = Outcome::Proved { tableau };
-    Ok(Answer { outcome, text })
+    Ok(reported(alloc, outcome, text))
 }
 
 // The valuation of the current branch, with its text.
@@ -43,11 +56,11 @@ struct Countermodel {
 fn countermodel_of(
     alloc: Global,
     problem: &Problem,
+    steps: u32,
     tableau: &Tableau<Open>,
 ) -> Result<Countermodel, AllocError>
-    requires propositional { IsPropositionalProblem (problem_tree problem.now) }
-    requires saturated { IsStoppedFor (problem_tree problem.now) Cause.saturated (tree_of tableau.now) }
-    ensures valuation { IfOk result (λ m. IsCountermodel (problem_tree problem.now) (map valued_tree m.valuation) (tree_of tableau.now)) }
+    requires { IsStoppedFor steps (problem_tree problem.now) Cause.saturated (tree_of tableau.now) }
+    ensures valuation { IfOk result (λ m. IsCountermodel steps (problem_tree problem.now) (map valued_tree m.valuation) (tree_of tableau.now)) }
     ensures text { IfOk result (λ m. m.text.items ≡ spec_falsified_text (problem_tree problem.now) (map valued_tree m.valuation)) }
 {
     let valuation = valuation_of(alloc, tableau, problem)?;
@@ -58,57 +71,62 @@ fn countermodel_of(
 fn report_falsified(
     alloc: Global,
     problem: &Problem,
+    steps: u32,
     tableau: Tableau<Open>,
 ) -> Result<Answer, AllocError>
-    requires propositional { IsPropositionalProblem (problem_tree problem.now) }
-    requires saturated { IsStoppedFor (problem_tree problem.now) Cause.saturated (tree_of tableau) }
-    ensures { IfOk result (λ a. IsReport (problem_tree problem.now) a.outcome a.text.items) }
+    requires { IsStoppedFor steps (problem_tree problem.now) Cause.saturated (tree_of tableau) }
+    ensures { IfOk result (λ r. IsReport steps (problem_tree problem.now) r.outcome r.text.items) }
 {
-    let Countermodel { valuation, text } = countermodel_of(alloc, problem, &tableau)?;
+    let Countermodel { valuation, text } = countermodel_of(alloc, problem, steps, &tableau)?;
     let outcome = Outcome::Falsified { valuation, tableau };
-    Ok(Answer { outcome, text })
+    Ok(reported(alloc, outcome, text))
 }
 
 fn report_unknown(
     alloc: Global,
     problem: &Problem,
+    steps: u32,
     why: Why,
     tableau: Tableau<Open>,
 ) -> Result<Answer, AllocError>
-    requires stopped { IsStoppedFor (problem_tree problem.now) (cause_of why) (tree_of tableau) }
+    requires stopped { IsStoppedFor steps (problem_tree problem.now) (cause_of why) (tree_of tableau) }
     requires unsaturated { cause_of why ≢ Cause.saturated }
-    ensures { IfOk result (λ a. IsReport (problem_tree problem.now) a.outcome a.text.items) }
+    ensures { IfOk result (λ r. IsReport steps (problem_tree problem.now) r.outcome r.text.items) }
 {
     let text = unknown_text(alloc, why, &tableau)?;
     let outcome = Outcome::Unknown { why, tableau };
-    Ok(Answer { outcome, text })
+    Ok(reported(alloc, outcome, text))
 }
 
 fn report_open(
     alloc: Global,
     problem: &Problem,
+    steps: u32,
     tableau: Tableau<Open>,
     why: Why,
 ) -> Result<Answer, AllocError>
-    requires propositional { IsPropositionalProblem (problem_tree problem.now) }
-    requires stopped { IsStoppedFor (problem_tree problem.now) (cause_of why) (tree_of tableau) }
-    ensures { IfOk result (λ a. IsReport (problem_tree problem.now) a.outcome a.text.items) }
+    requires { IsStoppedFor steps (problem_tree problem.now) (cause_of why) (tree_of tableau) }
+    ensures { IfOk result (λ r. IsReport steps (problem_tree problem.now) r.outcome r.text.items) }
 {
     match why {
-        Why::Saturated => report_falsified(alloc, problem, tableau),
-        Why::Steps => report_unknown(alloc, problem, Why::Steps, tableau),
-        Why::BranchLength => report_unknown(alloc, problem, Why::BranchLength, tableau),
+        Why::Saturated => report_falsified(alloc, problem, steps, tableau),
+        Why::Steps => report_unknown(alloc, problem, steps, Why::Steps, tableau),
+        Why::BranchLength => report_unknown(alloc, problem, steps, Why::BranchLength, tableau),
     }
 }
 
-/// What is answered to a search.
-pub fn report(alloc: Global, problem: &Problem, searched: Searched) -> Result<Answer, AllocError>
-    requires propositional { IsPropositionalProblem (problem_tree problem.now) }
-    requires searched { IsFoundFor (problem_tree problem.now) searched }
-    ensures { IfOk result (λ a. IsReport (problem_tree problem.now) a.outcome a.text.items) }
+/// What is answered to a search with so many Steps at most.
+pub fn report(
+    alloc: Global,
+    problem: &Problem,
+    steps: u32,
+    searched: Searched,
+) -> Result<Answer, AllocError>
+    requires { IsFoundFor steps (problem_tree problem.now) searched }
+    ensures { IfOk result (λ r. IsReport steps (problem_tree problem.now) r.outcome r.text.items) }
 {
     match searched {
-        Searched::Closed(tableau) => report_proved(alloc, problem, tableau),
-        Searched::Open(tableau, why) => report_open(alloc, problem, tableau, why),
+        Searched::Closed(tableau) => report_proved(alloc, problem, steps, tableau),
+        Searched::Open(tableau, why) => report_open(alloc, problem, steps, tableau, why),
     }
 }

@@ -1,12 +1,12 @@
-ghost use Rattle.std.specs.Prelude.{◌≡◌, ◌++◌, ◌+◌, OnOk, IfOk, codes, decimal, map, true, if◌then◌else◌};
-ghost use Rattle.zm_logic.specs.View.{form_tree};
+ghost use Rattle.std.specs.Prelude.{◌≡◌, ◌++◌, ◌+◌, OnOk, IfOk, codes, decimal, map, if◌then◌else◌};
 ghost use Rattle.search.specs.View.{tree_of, cause_of, valued_tree};
 ghost use Rattle.zenon_modulo.specs.Text as spec;
 
+use crate::names::push_atom;
 use itoa::Buffer;
 use search::{Closed, Open, Tableau, Valued, Why};
 use std::alloc::{AllocError, Global};
-use zm_logic::{Form, Symbol};
+use zm_logic::Symbol;
 
 // A number with what stands before it.
 fn push_pick(text: &mut Vec<u8>, is_first: bool, pick: usize) -> Result<(), AllocError>
@@ -60,17 +60,6 @@ pub fn unknown_text(alloc: Global, why: Why, tableau: &Tableau<Open>) -> Result<
     push_picks(&mut text, picks.as_slice())?;
     text.extend_from_slice(b"\n")?;
     Ok(text)
-}
-
-fn push_atom(text: &mut Vec<u8>, symbols: &[Symbol], atom: &Form) -> Result<(), AllocError>
-    ensures { OnOk result (text.new.items ≡ text.old.items ++ spec.atom_text (map (λ s. s.name) symbols.now) (form_tree atom.now)) }
-{
-    if let Form::Atom(symbol, _, _) = atom {
-        if let Some(symbol) = symbols.get((symbol.0 as usize).saturating_sub(1)) {
-            text.extend_from_slice(symbol.name.text().as_bytes())?;
-        }
-    }
-    Ok(())
 }
 
 fn truth_text(truth: bool) -> &'static [u8]

@@ -1,17 +1,13 @@
-use Rattle.std.proofs.Common.{rules, string_bytes}
-use Rattle.zenon_modulo.proofs.Misuses.{no_operand_is, bad_operand_is, bad_options_are}
+use Rattle.std.proofs.Common.{rules, map, string_bytes}
+use Rattle.zenon_modulo.proofs.Commands.{bad_operand_is, bad_options_are, command_is}
+use Rattle.zenon_modulo.specs.WordsRead.{operand_tree}
 use Rattle.zenon_modulo.proofs.words.read_operand.Goals as goal
 
-pub returns-then-not-is_word-clause-misuse : goal.returns-then-not-is_word-clause-misuse
-returns-then-not-is_word-clause-misuse c =
-    bad_operand_is string_bytes c.args.mode.now c.args.more.now c.operand-item.result c.in_ok-word-in-len1-up.word c.requires
-    c.in-len1-up.len_at_least c.operand-item.is (search rules) (search rules)
+pub returns-in-None-clause-misuse : goal.returns-in-None-clause-misuse
+returns-in-None-clause-misuse c = bad_operand_is c.args.mode.now (string_bytes c.args.word.now) _ (map string_bytes c.args.options.now) c.requires (search rules) (search rules)
 
-pub returns-in_ok-mode-in-empty-clause-misuse : goal.returns-in_ok-mode-in-empty-clause-misuse
-returns-in_ok-mode-in-empty-clause-misuse c =
-    no_operand_is string_bytes c.args.mode.now c.in_ok-mode-in-empty.mode c.args.more.now c.requires c.in-empty.len_below (search rules)
+pub returns-in-Ok-clause-command : goal.returns-in-Ok-clause-command
+returns-in-Ok-clause-command c = command_is c.args.mode.now (string_bytes c.args.word.now) (map string_bytes c.args.options.now) _ c.requires (search rules) (search rules)
 
-pub returns-else-more-eq1-clause-misuse : goal.returns-else-more-eq1-clause-misuse
-returns-else-more-eq1-clause-misuse c =
-    bad_options_are string_bytes c.args.mode.now c.args.more.now c.operand-item.result c.requires c.in-len1-up.len_at_least
-    (search rules) c.operand-item.is (search rules)
+pub returns-in-Err-BadOptions-clause-misuse : goal.returns-in-Err-BadOptions-clause-misuse
+returns-in-Err-BadOptions-clause-misuse c = bad_options_are c.args.mode.now (string_bytes c.args.word.now) (map string_bytes c.args.options.now) (operand_tree c.in-Some.operand) c.requires (search rules) (search rules)

@@ -1,5 +1,5 @@
 use Rattle.std.proofs.Common.{rules, string_bytes}
-use Rattle.zenon_modulo.proofs.Misuses.{no_mode_is, unknown_mode_is}
+use Rattle.zenon_modulo.proofs.Commands.{no_mode_is, unknown_mode_is}
 use Rattle.zenon_modulo.proofs.words.read_words.Goals as goal
 
 pub returns-then-not-is_word-clause-misuse : goal.returns-then-not-is_word-clause-misuse

@@ -1,0 +1,9 @@
+pub mod Written
+pub mod Scope
+pub mod Table
+pub mod Fault
+pub mod Places
+pub mod Typing
+pub mod Statements
+pub mod Indexed
+pub mod View

@@ -1,0 +1,23 @@
+//! Zenon Modulo: an automatic theorem prover of the tableau kind. The top call is `run`, whose contract says what each
+//! answer means.
+#![tactic(auto)]
+
+mod answer;
+pub mod laws;
+mod letters;
+mod message;
+mod names;
+mod options;
+mod outcome;
+mod report;
+mod status;
+#[cfg(test)]
+mod tests;
+mod text;
+mod top;
+mod words;
+
+pub use outcome::{InputRefusal, Outcome, Run};
+pub use status::status_of;
+pub use top::run;
+pub use words::UsageRefusal;
