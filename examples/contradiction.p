@@ -1,2 +1,3 @@
-fof(a_contradictory_premise_is_refuted_with_no_conjecture,axiom,
+% A contradictory premise is refuted; without a conjecture, falsity is to be proved.
+fof(both,axiom,
     p & ~p).

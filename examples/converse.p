@@ -1,2 +1,3 @@
-fof(an_implication_does_not_give_its_converse,axiom,p => q).
-fof(the_converse,conjecture,q => p).
+% An implication does not give its converse.
+fof(forth,axiom,p => q).
+fof(back,conjecture,q => p).

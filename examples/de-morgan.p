@@ -1,2 +1,3 @@
-fof(de_morgan_law_for_a_negated_conjunction,conjecture,
-    ~(p & q & r) => (~p | ~q | ~r)).
+% A negated conjunction is a disjunction of negations, and the other way round.
+fof(de_morgan,conjecture,
+    ~(p & q & r) <=> (~p | ~q | ~r)).

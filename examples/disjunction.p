@@ -1,2 +1,3 @@
-fof(a_disjunction_of_two_names_is_no_theorem,conjecture,
+% A disjunction of two names is no theorem.
+fof(either,conjecture,
     p | q).

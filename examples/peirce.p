@@ -1,2 +1,3 @@
-fof(peirce_law_holds_classically,conjecture,
+% Peirce's law holds classically.
+fof(peirce,conjecture,
     ((p => q) => p) => p).

@@ -1,3 +1,4 @@
-fof(modus_ponens_from_two_premises,axiom,man => mortal).
-fof(a_man,hypothesis,man).
-fof(mortal_too,conjecture,mortal).
+% Modus ponens from two premises.
+fof(all,axiom,man => mortal,file('textbook',all)).
+fof(one,hypothesis,man).
+fof(goal,conjecture,mortal).

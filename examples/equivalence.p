@@ -1,2 +1,0 @@
-fof(equivalence_is_not_built_yet,conjecture,
-    p <=> p).
