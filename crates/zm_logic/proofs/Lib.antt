@@ -10,5 +10,6 @@ pub mod ClosedForm
 pub mod Renaming
 pub mod Weakening
 pub mod Examples
+pub mod Trivial
 pub mod Identity
 pub mod Valuation

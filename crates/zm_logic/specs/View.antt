@@ -13,6 +13,13 @@ use Rattle.zm_logic.specs.declared.problem.Role.{Role}
 use Rattle.zm_logic.specs.declared.problem.Role.TheVariants as roles
 use Rattle.zm_logic.specs.declared.problem.Premise.{Premise}
 use Rattle.zm_logic.specs.declared.problem.Problem.{Problem}
+use Rattle.zm_logic.specs.declared.opening.Opening.{Opening}
+use Rattle.zm_logic.specs.declared.opening.Opening.TheVariants as openings
+use Rattle.zm_logic.specs.declared.rule.Binder.{Binder}
+use Rattle.zm_logic.specs.declared.rule.Binder.TheVariants as binders
+use Rattle.zm_logic.specs.declared.rule.Side.{Side}
+use Rattle.zm_logic.specs.declared.rule.Side.TheVariants as sides
+use Rattle.zm_logic.specs.declared.rule.Rule.{Rule}
 use Rattle.zm_logic.specs.Tree as tree
 
 -- a list of types, and of terms, as trees have it
@@ -93,3 +100,20 @@ premise_tree p = record { name = p.name; role = role_tree p.role; form = form_tr
 abbrev pub problem_tree : Problem → tree.Problem
 problem_tree p =
     record { symbols = map symbol_tree p.symbols; premises = map premise_tree p.premises; conjecture = form_tree p.conjecture }
+
+-- what is put for an index
+abbrev pub opening_tree : Opening → tree.Opening
+opening_tree (openings.OfType t) = tree.Opening.of_type (type_tree t.now)
+opening_tree (openings.OfTerm u) = tree.Opening.of_term (term_tree u.now)
+
+abbrev pub binder_tree : Binder → tree.Binder
+binder_tree binders.OfType = tree.Binder.of_type
+binder_tree (binders.OfTerm t) = tree.Binder.of_term (type_tree t)
+
+abbrev pub side_tree : Side → tree.Side
+side_tree (sides.OfTerm u) = tree.Side.of_term (term_tree u)
+side_tree (sides.OfForm f) = tree.Side.of_form (form_tree f)
+
+-- a rewrite rule
+abbrev pub rule_tree : Rule → tree.Rule
+rule_tree r = record { binders = map binder_tree r.binders; left = side_tree r.left; right = side_tree r.right }

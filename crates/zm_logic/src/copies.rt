@@ -1,5 +1,8 @@
 ghost use Rattle.std.specs.Prelude.{◌≡◌, IfOk};
 
+use crate::problem::{Sense, Symbol};
+use crate::rule::{Binder, Rule, Side};
+use crate::text::Text;
 use crate::tree::{Form, Term, Ty};
 use sqlite_items::{Boxed, Items};
 use std::alloc::{AllocError, Global};
@@ -84,4 +87,109 @@ fn copy_boxed(alloc: Global, form: &Boxed<Form>) -> Result<Boxed<Form>, AllocErr
     ensures { IfOk result (λ f. f ≡ form.now) }
 {
     Boxed::new(alloc, form.get().copy(alloc)?)
+}
+
+impl Text {
+    /// An equal text.
+    pub fn copy(&self, alloc: Global) -> Result<Text, AllocError>
+        ensures { IfOk result (λ t. t ≡ self.now) }
+    {
+        Text::of(alloc, self.text())
+    }
+}
+
+impl Sense {
+    /// An equal sense.
+    pub fn copy(&self, alloc: Global) -> Result<Sense, AllocError>
+        ensures { IfOk result (λ s. s ≡ self.now) }
+    {
+        Ok(match self {
+            Sense::Constructor => Sense::Constructor,
+            Sense::Predicate => Sense::Predicate,
+            Sense::Function(t) => Sense::Function(t.copy(alloc)?),
+        })
+    }
+}
+
+impl Symbol {
+    /// An equal symbol.
+    pub fn copy(&self, alloc: Global) -> Result<Symbol, AllocError>
+        ensures { IfOk result (λ s. s ≡ self.now) }
+    {
+        Ok(Symbol {
+            name: self.name.copy(alloc)?,
+            types: self.types,
+            arguments: copy_types(alloc, &self.arguments)?,
+            sense: self.sense.copy(alloc)?,
+        })
+    }
+}
+
+/// An equal list of symbols.
+pub fn copy_symbols(alloc: Global, symbols: &Items<Symbol>) -> Result<Items<Symbol>, AllocError>
+    ensures { IfOk result (λ ss. ss ≡ symbols.now) }
+{
+    let mut all = Items::new(alloc);
+    for s in symbols.as_slice() {
+        all.push(s.copy(alloc)?)?;
+    }
+    Ok(all)
+}
+
+impl Side {
+    /// An equal side.
+    pub fn copy(&self, alloc: Global) -> Result<Side, AllocError>
+        ensures { IfOk result (λ s. s ≡ self.now) }
+    {
+        Ok(match self {
+            Side::OfTerm(u) => Side::OfTerm(u.copy(alloc)?),
+            Side::OfForm(f) => Side::OfForm(f.copy(alloc)?),
+        })
+    }
+}
+
+fn copy_binders(alloc: Global, binders: &Items<Binder>) -> Result<Items<Binder>, AllocError>
+    ensures { IfOk result (λ bs. bs ≡ binders.now) }
+{
+    let mut all = Items::new(alloc);
+    for b in binders.as_slice() {
+        all.push(b.copy(alloc)?)?;
+    }
+    Ok(all)
+}
+
+impl Binder {
+    /// An equal binder.
+    pub fn copy(&self, alloc: Global) -> Result<Binder, AllocError>
+        ensures { IfOk result (λ b. b ≡ self.now) }
+    {
+        Ok(match self {
+            Binder::OfType => Binder::OfType,
+            Binder::OfTerm(t) => Binder::OfTerm(t.copy(alloc)?),
+        })
+    }
+}
+
+impl Rule {
+    /// An equal rule.
+    pub fn copy(&self, alloc: Global) -> Result<Rule, AllocError>
+        ensures { IfOk result (λ r. r ≡ self.now) }
+    {
+        Ok(Rule {
+            binders: copy_binders(alloc, &self.binders)?,
+            left: self.left.copy(alloc)?,
+            right: self.right.copy(alloc)?,
+        })
+    }
+}
+
+/// An equal list of rules.
+pub fn copy_rules(alloc: Global, rules: &Items<Rule>) -> Result<Items<Rule>, AllocError>
+    ensures { IfOk result (λ rs. rs ≡ rules.now) }
+{
+    let mut all = Items::new(alloc);
+    for r in rules.as_slice() {
+        all.push(r.copy(alloc)?)?;
+    }
+    Ok(all)
 }

@@ -1,6 +1,11 @@
+ghost use Rattle.std.specs.Prelude.{◌≡◌};
+ghost use Rattle.zm_logic.specs.View.{problem_tree};
+ghost use Rattle.zm_logic.specs.Problem.{IsTypedProblem};
+
 use crate::text::Text;
 use crate::tree::{Form, Ty, Tys};
 use sqlite_items::Items;
+use std::marker::Model;
 
 /// What a symbol makes of its arguments.
 #[derive(Drop)]
@@ -62,4 +67,46 @@ pub struct Problem {
     pub symbols: Symbols,
     pub premises: Premises,
     pub conjecture: Form,
+}
+
+/// A problem that is well typed: each symbol, each premise and the conjecture is, has no loose index and no
+/// parameter, and is no deeper than 1,500, and no two symbols print the same name. Contracts see the problem.
+#[derive(Drop)]
+pub struct TypedProblem {
+    problem: Problem,
+}
+
+impl Model for TypedProblem {
+    ghost use Rattle.zm_logic.specs.declared.problem.Problem.{Problem};
+    ghost use Rattle.zm_logic.specs.contracts.tree.Ty as ty;
+    ghost use Rattle.zm_logic.specs.contracts.tree.Form as form;
+    ghost use Rattle.std.specs.Coded.{codes};
+    ghost use Rattle.zm_logic.specs.View.{problem_tree};
+    ghost use Rattle.zm_logic.specs.Problem.{IsTypedProblem};
+
+    ghost Value = { Problem };
+
+    ghost coded = { Prim.hlevel (codes, ty.the_row.coded, form.the_row.coded) };
+
+    ghost view = { λ p. p.problem };
+
+    ghost invariant = { λ p. IsTypedProblem (problem_tree p.problem) };
+}
+
+impl TypedProblem {
+    /// The given problem, which is well typed. Takes no memory.
+    pub fn make(problem: Problem) -> TypedProblem
+        requires { IsTypedProblem (problem_tree problem) }
+        ensures { result ≡ problem }
+    {
+        TypedProblem { problem }
+    }
+
+    /// The problem itself, which is well typed. Takes no memory.
+    pub fn problem(&self) -> &Problem
+        ensures problem { result.now ≡ self.now }
+        ensures typed { IsTypedProblem (problem_tree self.now) }
+    {
+        &self.problem
+    }
 }

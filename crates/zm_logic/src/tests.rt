@@ -1,3 +1,8 @@
+use crate::closing::close_form;
+use crate::copies::{copy_rules, copy_symbols};
+use crate::opening::{open_form, open_type};
+use crate::problem::{Premises, Problem, Sense, Symbol, Symbols, TypedProblem};
+use crate::rule::{Binder, Binders, Rule, Rules, Side};
 use crate::text::Text;
 use crate::tree::{Form, SymId, Term, Terms, Ty, Tys};
 use sqlite_items::{Boxed, Items};
@@ -105,5 +110,152 @@ fn copies_are_the_same(rt: HostRuntime) -> Result<(), Fail> {
 fn texts(rt: HostRuntime) -> Result<(), Fail> {
     let text = Text::of(rt.alloc(), "Søren's axiom")?;
     assert_eq!(rt; text.text(), "Søren's axiom");
+    Ok(())
+}
+
+// the closed formula, where it is small enough
+fn closed(alloc: Global, form: &Form, number: u64) -> Result<Form, AllocError> {
+    if form.depth() < 1000 {
+        close_form(alloc, form, number)
+    } else {
+        Err(AllocError)
+    }
+}
+
+// ! [Y: binder] : q(t, x, Y)
+fn under_binder(alloc: Global, binder: Ty, t: Ty, x: Term) -> Result<Form, AllocError> {
+    let mut types = Tys::new(alloc);
+    types.push(t)?;
+    let mut terms = Terms::new(alloc);
+    terms.push(x)?;
+    terms.push(Term::Bound(0))?;
+    let body = Boxed::new(alloc, Form::Atom(SymId(4), types, terms))?;
+    Ok(Form::All(binder, body))
+}
+
+#[test]
+fn opening_and_closing_terms(rt: HostRuntime) -> Result<(), Fail> {
+    let alloc = rt.alloc();
+    let body = under_binder(alloc, list(alloc)?, Ty::Param(1), Term::Bound(1))?;
+    let eps = Term::Eps(7, list(alloc)?);
+    let open = open_form(alloc, &body, &eps)?;
+    let wanted = under_binder(alloc, list(alloc)?, Ty::Param(1), eps)?;
+    assert!(rt;
+        open.same(&wanted),
+        "index 0 of the body is index 1 under the binder"
+    );
+    assert!(rt;
+        closed(alloc, &open, 7)?.same(&body),
+        "closing undoes opening"
+    );
+    assert!(rt;
+        closed(alloc, &open, 8)?.same(&open),
+        "another number stays"
+    );
+    let kept = open_type(alloc, &body, &Ty::Param(3))?;
+    assert!(rt; kept.same(&body), "a term's index is left alone by a type");
+    Ok(())
+}
+
+#[test]
+fn opening_and_closing_types(rt: HostRuntime) -> Result<(), Fail> {
+    let alloc = rt.alloc();
+    let carried = Term::Eps(5, Ty::Bound(1));
+    let body = under_binder(alloc, Ty::Bound(0), Ty::Bound(1), carried)?;
+    let open = open_type(alloc, &body, &Ty::Param(3))?;
+    let opened = Term::Eps(5, Ty::Param(3));
+    let wanted = under_binder(alloc, Ty::Param(3), Ty::Param(3), opened)?;
+    assert!(rt;
+        open.same(&wanted),
+        "in the binder's type, in a type, in a carried type"
+    );
+    assert!(rt;
+        closed(alloc, &open, 3)?.same(&body),
+        "closing undoes opening"
+    );
+    let both = under_binder(
+        alloc,
+        Ty::Param(5),
+        Ty::Param(5),
+        Term::Eps(5, Ty::Param(3)),
+    )?;
+    let wanted = under_binder(alloc, Ty::Bound(0), Ty::Bound(1), Term::Bound(1))?;
+    assert!(rt;
+        closed(alloc, &both, 5)?.same(&wanted),
+        "parameters of both kinds"
+    );
+    Ok(())
+}
+
+#[test]
+fn copies_of_symbols(rt: HostRuntime) -> Result<(), Fail> {
+    let alloc = rt.alloc();
+    let name = Text::of(alloc, "cons")?;
+    let mut arguments = Tys::new(alloc);
+    arguments.push(Ty::Bound(0))?;
+    let sense = Sense::Function(list(alloc)?);
+    let mut symbols = Symbols::new(alloc);
+    symbols.push(Symbol {
+        name,
+        types: 1,
+        arguments,
+        sense,
+    })?;
+    let copied = copy_symbols(alloc, &symbols)?;
+    assert_eq!(rt; copied.len(), 1);
+    for s in copied.as_slice() {
+        assert_eq!(rt; (s.name.text(), s.types, s.arguments.len()), ("cons", 1, 1));
+        assert!(rt;
+            matches!(s.sense, Sense::Function(Ty::Con(SymId(1), _))),
+            "the result type"
+        );
+    }
+    Ok(())
+}
+
+#[test]
+fn copies_of_rules(rt: HostRuntime) -> Result<(), Fail> {
+    let alloc = rt.alloc();
+    let mut binders = Binders::new(alloc);
+    binders.push(Binder::OfType)?;
+    binders.push(Binder::OfTerm(Ty::Bound(0)))?;
+    let left = Side::OfForm(atom(alloc, Term::Bound(0))?);
+    let right = Side::OfTerm(Term::Bound(0));
+    let mut rules = Rules::new(alloc);
+    rules.push(Rule {
+        binders,
+        left,
+        right,
+    })?;
+    let copied = copy_rules(alloc, &rules)?;
+    assert_eq!(rt; copied.len(), 1);
+    for r in copied.as_slice() {
+        assert_eq!(rt; r.binders.len(), 2);
+        assert!(rt;
+            matches!(r.left, Side::OfForm(Form::Atom(SymId(3), _, _))),
+            "the left side"
+        );
+        assert!(rt;
+            matches!(r.right, Side::OfTerm(Term::Bound(0))),
+            "the right side"
+        );
+    }
+    Ok(())
+}
+
+#[test]
+fn typed_problem(rt: HostRuntime) -> Result<(), Fail> {
+    let alloc = rt.alloc();
+    let symbols = Symbols::new(alloc);
+    let premises = Premises::new(alloc);
+    let problem = TypedProblem::make(Problem {
+        symbols,
+        premises,
+        conjecture: Form::True,
+    });
+    assert!(rt;
+        problem.problem().conjecture.same(&Form::True),
+        "the problem itself"
+    );
     Ok(())
 }
