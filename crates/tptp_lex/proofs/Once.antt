@@ -23,7 +23,7 @@ use Rattle.tptp_lex.proofs.Suffix.{one_end}
 use Rattle.tptp_lex.proofs.RowsReach.{is_longest, no_row, empty_row, same_longest}
 
 -- an end of the text has one place
-same_place : (bytes : List ℕ) (i j : ℕ) → i ≤ length bytes → j ≤ length bytes → drop i bytes ≡ drop j bytes → i ≡ j
+pub same_place : (bytes : List ℕ) (i j : ℕ) → i ≤ length bytes → j ≤ length bytes → drop i bytes ≡ drop j bytes → i ≡ j
 same_place bytes i j p q e =
     let lengths : length bytes - i ≡ length bytes - j = sym (length-drop i bytes) ∙ ap length e ∙ length-drop j bytes in
     omega arith
@@ -34,7 +34,7 @@ some_pair x y e = cc
 none_pair : (x : TokenKind × ℕ) → None ≡ Some x → ⊥
 none_pair x e = cc
 
-same_token : (t u : Token) → t.kind ≡ u.kind → t.start ≡ u.start → t.end ≡ u.end → t ≡ u
+pub same_token : (t u : Token) → t.kind ≡ u.kind → t.start ≡ u.start → t.end ≡ u.end → t ≡ u
 same_token t u p q r =
     ap (λ k. record { kind = k; start = t.start; end = t.end }) p
     ∙ ap (λ s. record { kind = u.kind; start = s; end = t.end }) q
@@ -68,7 +68,7 @@ fault_is text from at f = record {
 }
 
 -- and it is the only one
-token_same : (bytes : List ℕ) (kind : TokenKind) (rest : List ℕ) (k : TokenKind) (n : ℕ) → IsToken bytes kind rest → token_at bytes ≡ Some (k, n) → n ≤ length bytes → (k ≡ kind) × (length rest + n ≡ length bytes)
+pub token_same : (bytes : List ℕ) (kind : TokenKind) (rest : List ℕ) (k : TokenKind) (n : ℕ) → IsToken bytes kind rest → token_at bytes ≡ Some (k, n) → n ≤ length bytes → (k ≡ kind) × (length rest + n ≡ length bytes)
 token_same bytes kind rest k n at_end e le =
     let pair = some_pair (kinds.End, 0) (k, n) e in
     let count : 0 ≡ n = ap (λ (p : TokenKind × ℕ). p.1) pair in
@@ -96,7 +96,7 @@ no_fault text from at t n f =
     let rest = one_end (drop from text) (drop t.start text) (drop at text) n.skips f.skips in
     some_row (drop at text) t.kind (t.end - t.start) (ap token_at (sym rest) ∙ n.row) f.more f.none
 
-no_token : (bytes : List ℕ) (kind : TokenKind) (rest : List ℕ) → IsToken bytes kind rest → token_at bytes ≡ None → ⊥
+pub no_token : (bytes : List ℕ) (kind : TokenKind) (rest : List ℕ) → IsToken bytes kind rest → token_at bytes ≡ None → ⊥
 no_token bytes kind rest at_end e = none_pair (kinds.End, 0) (sym e)
 no_token bytes kind rest (in_table l) e = no_row bytes e kind rest l.row
 

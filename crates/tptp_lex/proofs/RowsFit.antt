@@ -30,7 +30,7 @@ both_true true t h = (refl, h)
 both_true false t h = absurd (false_true h)
 
 -- bytes that begin with a spelling are the spelling and the rest
-fits_spelling : (bytes word : List ℕ) → starts_with (λ a b. a == b) bytes word ≡ true → bytes ≡ word ++ drop (length word) bytes
+pub fits_spelling : (bytes word : List ℕ) → starts_with (λ a b. a == b) bytes word ≡ true → bytes ≡ word ++ drop (length word) bytes
 fits_spelling bytes word h = (starts_is Decides-eqb bytes word (starts_with (λ x y. x == y) bytes word) refl).0 h
 
 -- behind one byte, two, three

@@ -75,6 +75,27 @@ impl<'a> Lexer<'a> {
         }
     }
 
+    /// A lexer at a place of a text.
+    pub fn at(bytes: &'a [u8], place: usize) -> Self
+        requires { place ≤ length bytes.now }
+        ensures text { result.text ≡ bytes.now }
+        ensures place { result.reached ≡ place }
+        ensures unstopped { result.stopped ≡ None }
+    {
+        Lexer {
+            bytes,
+            place,
+            fault: None,
+        }
+    }
+
+    /// The place behind the last token.
+    pub fn place(&self) -> usize
+        ensures { result ≡ self.now.reached }
+    {
+        self.place
+    }
+
     /// The next token. Where nothing but white space and comments follows, it is `End`, empty, behind the whole text.
     ///
     /// # Errors

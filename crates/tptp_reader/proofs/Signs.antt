@@ -1,10 +1,8 @@
 -- The signs are told apart by their numbers.
-use Rattle.std.proofs.Common.{◌≡◌, ◌==◌, true, false, ℕ, cond, List, [], ◌∷◌, Option, Some, None, get_or, refl, sym, ◌∙◌, ap}
-use Rattle.std.proofs.lemmas.Bool.Decides.{nat_tests}
+use Rattle.std.proofs.Common.{◌≡◌, ℕ, [], ◌∷◌, get_or, refl, sym, ◌∙◌, ap}
 use Rattle.tptp_lex.specs.declared.signs.Sign.{Sign}
 use Rattle.tptp_lex.specs.declared.signs.Sign.TheVariants.{Open, Close, OpenList, CloseList, Comma, Stop, Colon, And, Or, Not, Implies, If, Iff, Xor, NotAnd, NotOr, Equal, NotEqual, All, Exists, AllTypes, Arrow, Star, At, Caret, Plus, Minus}
-use Rattle.tptp_reader.specs.Tokens.{Token, lower, upper, defined, quoted, distinct, number, sign}
-use Rattle.tptp_reader.specs.Parsing.{sign_number, first_sign, behind}
+use Rattle.tptp_reader.specs.Parsing.{sign_number}
 
 -- the sign of a number
 abbrev sign_numbered : ℕ → Sign

@@ -1,6 +1,6 @@
 -- What is refused in the tokens of a wide statement before its grammar is asked, row by row in their order. A row answers
 -- the number of the token that is refused.
-use Rattle.std.specs.Prelude.{ℕ, suc, ◌+◌, nat_le, ◌||◌, ◌&&◌, Bool, true, false, cond, List, [], ◌∷◌, drop, codes, Option, Some, None}
+use Rattle.std.specs.Prelude.{ℕ, suc, ◌+◌, nat_le, ◌||◌, ◌&&◌, Bool, cond, List, [], ◌∷◌, drop, codes, Option, Some, None}
 use Rattle.std.specs.Option.{option_map, is_some}
 use Rattle.std.specs.Str.{bytes_eq}
 use Rattle.tptp_lex.specs.declared.signs.Sign.TheVariants.{At, Caret, Plus, Minus}

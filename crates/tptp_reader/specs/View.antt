@@ -1,5 +1,5 @@
 -- The trees that the program's values stand for.
-use Rattle.std.specs.Prelude.{ℕ, List, [], ◌∷◌, map, Option, Some, None}
+use Rattle.std.specs.Prelude.{List, [], ◌∷◌, map}
 use Rattle.std.specs.Option.{option_map}
 use Rattle.tptp_reader.specs.declared.tree.RawType.{RawType, fold-RawType}
 use Rattle.tptp_reader.specs.declared.tree.RawType.TheOpen as type_layer

@@ -137,7 +137,8 @@ fn close_boxed(
     Boxed::new(alloc, form.get().close(alloc, at, number)?)
 }
 
-/// The body over which a quantifier binds the parameters of the number.
+/// The body over which a quantifier binds the epsilon terms and the type parameters of the number: index 0, counted on
+/// under each binder, for each of them. The one error is want of memory.
 pub fn close_form(alloc: Global, form: &Form, number: u64) -> Result<Form, AllocError>
     requires { measure.depth (form_tree form.now) < 2 ^ 32 - 1 }
     ensures { IfOk result (λ f. form_tree f ≡ opening.close (form_tree form.now) number) }

@@ -155,14 +155,14 @@ fn open_body(
     }
 }
 
-/// The formula with the term for index 0.
+/// The formula with the term for index 0, counted on under each binder. The one error is want of memory.
 pub fn open_form(alloc: Global, form: &Form, with: &Term) -> Result<Form, AllocError>
     ensures { IfOk result (λ f. form_tree f ≡ opening.at_term (form_tree form.now) (term_tree with.now)) }
 {
     form.open(alloc, 0, Opening::OfTerm(with))
 }
 
-/// The formula with the type for index 0.
+/// The formula with the type for index 0, counted on under each binder. The one error is want of memory.
 pub fn open_type(alloc: Global, form: &Form, with: &Ty) -> Result<Form, AllocError>
     ensures { IfOk result (λ f. form_tree f ≡ opening.at_type (form_tree form.now) (type_tree with.now)) }
 {

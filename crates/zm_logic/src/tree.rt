@@ -1,7 +1,7 @@
 use sqlite_items::{Boxed, Items};
 
 /// The number of a symbol: 0 is the type of individuals, and a problem's symbols are numbered from 1.
-#[derive(Clone, Copy, Debug, PartialEq, Eq)]
+#[derive(Clone, Copy, Debug, PartialEq, Eq, Hash)]
 pub struct SymId(pub u32);
 
 /// A list of types. Contracts see it as a list.
