@@ -25,15 +25,12 @@ impl Model for Gathered {
     ghost use Rattle.std.specs.Prelude.{List, map};
     ghost use Rattle.std.specs.List.{AllByRecursion};
     ghost use Rattle.tptp_include.specs.declared.gathered.GatheredStatement.{GatheredStatement};
-
-    ghost use Rattle.tptp_reader.specs.contracts.tree.RawForm as form;
-    ghost use Rattle.tptp_reader.specs.contracts.tree.RawTerm as term;
-    ghost use Rattle.tptp_reader.specs.contracts.tree.RawType as ty;
-    ghost use Rattle.std.specs.Coded.{codes};
+    ghost use Rattle.std.specs.Coded.{coded_list};
+    ghost use Rattle.tptp_include.specs.contracts.gathered.GatheredStatement.{the_row};
 
     ghost Value = { List GatheredStatement };
 
-    ghost coded = { Prim.hlevel (codes, ty.the_row.coded, term.the_row.coded, form.the_row.coded) };
+    ghost coded = { coded_list the_row.coded };
 
     ghost use Rattle.tptp_include.specs.Gathering.{IsGathered};
     ghost use Rattle.tptp_include.specs.Outcomes.{placed_of};

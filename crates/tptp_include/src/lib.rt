@@ -2,11 +2,17 @@
 #![tactic(auto)]
 
 mod file_name;
+mod files;
 mod gathered;
-mod collect;
+mod gathering;
+mod opening;
+mod reading;
 mod refusal;
+mod selection;
+#[cfg(test)]
+mod tests;
 
 pub use file_name::FileName;
 pub use gathered::{Gathered, GatheredStatement};
-pub use collect::gather;
+pub use gathering::{gather, outcomes_are_equal};
 pub use refusal::{GatherRefusal, Place};

@@ -5,6 +5,7 @@ mod Commands
 mod Dashes
 mod FileText
 mod LettersAlone
+mod OneReading
 mod Picks
 mod Printed
 mod SymbolNames

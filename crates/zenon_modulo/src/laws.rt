@@ -1,11 +1,14 @@
 //! What the definitions come to, beside what the calls claim of them. Each function does nothing: its clause is the law.
 ghost use Rattle.zenon_modulo.specs.Laws.{SpelledProblemsAreEqual, CommandsAreEqual, MisusesAreEqual, CommandsAreNotMisused};
 
+use tptp_include::outcomes_are_equal;
+
 /// The text of an operand spells at most one problem. So the clauses of `run` speak of one and the same.
-#[tactic(auto, using(crate::proofs::OneReading::one_problem))]
 pub fn spelled_problems_are_equal()
     ensures { SpelledProblemsAreEqual }
-{}
+{
+    outcomes_are_equal();
+}
 
 /// Words are at most one command.
 #[tactic(auto, using(crate::proofs::OneReading::one_command))]
