@@ -14,8 +14,8 @@ pub fn need(problem: &Problem) -> u128
     weight(problem).saturating_mul(all_leaves(problem))
 }
 
-/// The weight of the premises and the negated conjecture of a problem, at most `u128::MAX`: 1 for each negation, 2 for each
-/// conjunction, disjunction and implication, 3 for each equivalence. It allocates nothing.
+/// The weight of the premises and the negated conjecture of a problem, at most `u128::MAX`: 1 for each negation, 2 for
+/// each conjunction, disjunction and implication, 3 for each equivalence. It allocates nothing.
 #[tactic(auto, using(crate::proofs::Counted::weights_with))]
 pub fn weight(problem: &Problem) -> u128
     ensures { result ≡ min (spec.weights (refuted (problem_tree problem.now))) (2 ^ 128 - 1) }
