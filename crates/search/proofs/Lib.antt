@@ -14,3 +14,4 @@ pub mod Entered
 pub mod Ground
 pub mod Load
 pub mod Bound
+pub mod Counted

@@ -4,6 +4,7 @@
 mod branch;
 mod closing;
 mod growth;
+mod measures;
 mod node;
 mod offer;
 mod run;
@@ -12,6 +13,7 @@ mod tableau;
 mod tests;
 mod valued;
 
+pub use measures::{need, weight};
 pub use node::{Act, Child, ClosingPair, Kind, Node, Why};
 pub use run::{Searched, search};
 pub use tableau::{Closed, Open, Tableau};

@@ -2,6 +2,7 @@ ghost use Rattle.std.specs.Prelude.{IfOk};
 ghost use Rattle.zm_logic.specs.View.{form_tree, problem_tree};
 ghost use Rattle.search.specs.Propositional.{IsPropositional, IsPropositionalProblem};
 
+use crate::measures::{need, weight};
 use crate::node::Why;
 use crate::run::{Searched, search};
 use crate::valued::valuation_of;
@@ -143,5 +144,42 @@ fn falsifies_what_is_not(rt: HostRuntime) -> Result<(), Fail> {
     }
     let nothing = goal(alloc, Boxed::new(alloc, Form::False)?);
     assert_eq!(rt; outcome(alloc, &nothing, 0)?, Ending::Open(Why::Saturated));
+    Ok(())
+}
+
+#[test]
+fn counts_by_hand(rt: HostRuntime) -> Result<(), Fail> {
+    let alloc = rt.alloc();
+    let left = and(alloc, letter(alloc, 1)?, letter(alloc, 2)?)?;
+    let right = and(alloc, letter(alloc, 2)?, letter(alloc, 1)?)?;
+    let turned = goal(alloc, implies(alloc, left, right)?);
+    assert_eq!(rt; (weight(&turned), need(&turned)), (7, 14));
+    let alike = goal(alloc, iff(alloc, letter(alloc, 1)?, letter(alloc, 2)?)?);
+    assert_eq!(rt; (weight(&alike), need(&alike)), (4, 8));
+    let assumed = premise(alloc, iff(alloc, letter(alloc, 1)?, letter(alloc, 2)?)?)?;
+    assert_eq!(rt; (weight(&assumed), need(&assumed)), (4, 8));
+    let mut several = premise(alloc, or(alloc, letter(alloc, 1)?, letter(alloc, 2)?)?)?;
+    let name = Text::of(alloc, "b")?;
+    let role = Role::Axiom;
+    let form = implies(alloc, letter(alloc, 1)?, letter(alloc, 2)?)?.into_inner();
+    several.premises.push(Premise { name, role, form })?;
+    several.conjecture = and(alloc, letter(alloc, 2)?, letter(alloc, 1)?)?.into_inner();
+    assert_eq!(rt; (weight(&several), need(&several)), (7, 56));
+    Ok(())
+}
+
+#[test]
+fn counts_no_further_than_the_greatest_number(rt: HostRuntime) -> Result<(), Fail> {
+    let alloc = rt.alloc();
+    let mut chain = letter(alloc, 1)?;
+    for _ in 0..130 {
+        chain = Boxed::new(alloc, Form::Iff(chain, letter(alloc, 2)?))?;
+    }
+    let problem = Problem {
+        symbols: Items::new(alloc),
+        premises: Items::new(alloc),
+        conjecture: chain.into_inner(),
+    };
+    assert_eq!(rt; (weight(&problem), need(&problem)), (391, u128::MAX));
     Ok(())
 }

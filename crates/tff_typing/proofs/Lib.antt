@@ -1,1 +1,26 @@
-
+pub mod Outcomes
+pub mod Extends
+pub mod Lookups
+pub mod Rebound
+pub mod TypesTyped
+pub mod Instances
+pub mod Tables
+pub mod TermsTyped
+pub mod Binding
+pub mod FormsTyped
+pub mod StatementsTyped
+pub mod DepthBound
+pub mod DepthOfForms
+pub mod Problems
+pub mod Worked
+pub mod Indexed
+pub mod Walks
+pub mod ScopeLists
+pub mod TypeLists
+pub mod RawLists
+pub mod Gives
+pub mod Arguments
+pub mod Sides
+pub mod Declared
+pub mod States
+pub mod Entries

@@ -1,16 +1,16 @@
 -- The trees of typing as one walk builds them: each variable in scope is its index at once, and nothing is closed.
 -- Types that are still compared keep their parameters.
-use Rattle.std.specs.Prelude.{ℕ, suc, zero, ◌-◌, ◌==◌, Bool, false, ◌&&◌, if◌then◌else◌, Option, Some, None, Ok, Err, ◌∷◌, [], length}
-use Rattle.zm_logic.specs.Tree.{Ty, Tys, Term, Terms, Form, Symbol, Sense, Binder}
+use Rattle.std.specs.Prelude.{ℕ, suc, zero, ◌-◌, ◌==◌, ◌++◌, Bool, true, false, ◌&&◌, if◌then◌else◌, Option, Some, None, Ok, Err, ◌∷◌, [], length, nat_lt}
+use Rattle.zm_logic.specs.Tree.{Ty, Tys, Term, Terms, Form, Symbol, Sense, Binder, Role}
 use Rattle.zm_logic.specs.Typing.{how_many}
-use Rattle.tptp_reader.specs.Raw.{Name, RawTerm, RawTerms, RawForm, RawStatement, Quantifier}
+use Rattle.tptp_reader.specs.Raw.{Name, RawType, RawTerm, RawTerms, RawForm, RawStatement, Quantifier}
 use Rattle.tff_typing.specs.Written.{as_types, number_of_terms, connective_of, quantifier_of, premise_role}
 use Rattle.tff_typing.specs.Scope.{Scope, Bound, look_up}
-use Rattle.tff_typing.specs.Table.{Table, Place, formula, term}
+use Rattle.tff_typing.specs.Table.{Table, Numbered, Place, formula, term, arity, declared, used, undeclared, with_entry, most_symbols}
 use Rattle.tff_typing.specs.Fault.{Fault, Outcome, ◌>>=◌}
-use Rattle.tff_typing.specs.Places.{types_in, symbol_for, Expression, wanted, as_formula, first}
+use Rattle.tff_typing.specs.Places.{type_in, types_in, Expression, wanted, as_formula, first}
 use Rattle.tff_typing.specs.Typing.{Typed, gives, unchanged, left_side, binder_in, is_universal}
-use Rattle.tff_typing.specs.Statements.{indexed, all_indexed, State, if_first, declare}
+use Rattle.tff_typing.specs.Statements.{indexed, all_indexed, is_kind, function_of, State, if_first, declare}
 
 -- the term and the formula with an index for each variable in scope, under k binders
 abbrev mutual
@@ -38,6 +38,11 @@ indexed_form k (Form.for_all_types f) = Form.for_all_types (indexed_form (suc k)
 abbrev pub indexed_expression : ℕ → Expression → Expression
 indexed_expression k (Expression.term t u) = Expression.term t (indexed_term k u)
 indexed_expression k (Expression.atom p ts us) = Expression.atom p (all_indexed k ts) (indexed_terms k us)
+
+-- one more type at the end
+abbrev pub with_type : Tys → Ty → Tys
+with_type Tys.none t = Tys.more t Tys.none
+with_type (Tys.more x xs) t = Tys.more x (with_type xs t)
 
 -- what an index stands for, the last of the types being at 0
 abbrev pub picked : Tys → ℕ → Ty
@@ -71,6 +76,41 @@ rest zero us = us
 rest (suc n) RawTerms.none = RawTerms.none
 rest (suc n) (RawTerms.more u us) = rest n us
 
+-- a symbol without its name
+pub record Taken : Type 0 where
+  pub number : ℕ
+  pub types : ℕ
+  pub arguments : Tys
+  pub sense : Sense
+
+abbrev pub taken_of : Numbered → Taken
+taken_of d = record { number = d.number; types = d.symbol.types; arguments = d.symbol.arguments; sense = d.symbol.sense }
+
+abbrev pub taken_if : Numbered → Sense → Outcome Taken
+taken_if d Sense.constructor = Err Fault.not_a_term
+taken_if d Sense.predicate = Ok (taken_of d)
+taken_if d (Sense.function r) = Ok (taken_of d)
+
+abbrev pub taken_with : ℕ → Numbered → Outcome Taken
+taken_with n d = if n == arity d.symbol then taken_if d d.symbol.sense else Err Fault.arity
+
+abbrev pub new_taken : Table → Place → Name → ℕ → Outcome (Typed Taken)
+new_taken table place x n =
+    if nat_lt (length table) most_symbols
+    then gives (with_entry table false (undeclared place x n)) (taken_of (record { number = suc (length table); symbol = undeclared place x n }))
+    else Err Fault.too_many_symbols
+
+abbrev pub used_taken : Table → Place → Name → ℕ → Option Numbered → Outcome (Typed Taken)
+used_taken table place x n (Some d) = unchanged table (taken_if d d.symbol.sense)
+used_taken table place x n None = new_taken table place x n
+
+abbrev pub declared_taken : Table → Place → Name → ℕ → Option Numbered → Outcome (Typed Taken)
+declared_taken table place x n (Some d) = unchanged table (taken_with n d)
+declared_taken table place x n None = used_taken table place x n (used table x n)
+
+abbrev pub symbol_at : Table → Place → Name → ℕ → Outcome (Typed Taken)
+symbol_at table place x n = declared_taken table place x n (declared table x)
+
 -- a symbol at its types: its number, the types, the types that its other arguments want, and its sense
 pub record Head : Type 0 where
   pub number : ℕ
@@ -79,15 +119,15 @@ pub record Head : Type 0 where
   pub wanted_types : Tys
   pub sense : Sense
 
-abbrev pub head_of : ℕ → Symbol → Tys → Head
-head_of n d ts =
-    record { number = n; skipped = d.types; types = ts; wanted_types = all_filled ts d.arguments; sense = d.sense }
+abbrev pub head_of : Taken → Tys → Head
+head_of d ts =
+    record { number = d.number; skipped = d.types; types = ts; wanted_types = all_filled ts d.arguments; sense = d.sense }
 
 abbrev pub head_at : Table → Scope → Place → Name → RawTerms → Outcome (Typed Head)
 head_at table s place f us =
-    symbol_for table place f (number_of_terms us) >>= λ d.
-    types_in d.table s (as_types (first d.found.symbol.types us)) >>= λ ts.
-    gives d.table (head_of d.found.number d.found.symbol ts)
+    symbol_at table place f (number_of_terms us) >>= λ d.
+    types_in d.table s (as_types (first d.tree.types us)) >>= λ ts.
+    gives d.table (head_of d.tree ts)
 
 abbrev pub applied_at : ℕ → ℕ → Tys → Terms → Sense → Expression
 applied_at k f ts us Sense.constructor = Expression.atom f (all_indexed k ts) us
@@ -113,6 +153,9 @@ abbrev mutual
       wanted w x.tree >>= λ a.
       terms_at x.table s zero ws us >>= λ vs.
       gives vs.table (Terms.more a vs.tree)
+
+abbrev pub named_at : Table → Scope → Place → Name → RawTerms → Outcome (Typed Expression)
+named_at table s place f us = expression_at table s place (RawTerm.named f us)
 
 -- a term of the wanted type
 abbrev pub term_at : Table → Scope → Ty → RawTerm → Outcome (Typed Term)
@@ -164,3 +207,31 @@ form_at table s front (RawForm.quantified q v f) =
     binder_in table s q front v.type >>= λ b.
     form_at table (record { name = v.name; binder = b } ∷ s) (front && is_universal q) f >>= λ g.
     gives g.table (bind_at q (indexed_binder (length s) b) g.tree)
+
+-- one argument of a declaration: its type, or none where it is `$tType`
+abbrev pub argument_at : Table → Scope → Bool → RawType → Outcome (Option Ty)
+argument_at table s kinds t =
+    if is_kind t
+    then (if kinds then Ok None else Err Fault.not_a_type)
+    else (type_in table s t >>= λ u. Ok (Some u))
+
+abbrev pub with_argument : Tys → Option Ty → Tys
+with_argument ts None = ts
+with_argument ts (Some t) = with_type ts t
+
+-- a function with the written result
+abbrev pub function_at : Table → Name → Scope → Tys → RawType → Outcome Symbol
+function_at table x s ts t = type_in table s t >>= λ r. Ok (function_of x s ts r)
+
+-- a statement
+abbrev pub formula_at : State → Name → Option Role → RawForm → Outcome State
+formula_at state x (Some role) f =
+    form_at state.table [] true f >>= λ g.
+    Ok (record state { table = g.table; premises = state.premises ++ record { name = x; role = role; form = g.tree } ∷ [] })
+formula_at state x None f =
+    if_first state.conjecture (form_at state.table [] true f >>= λ g. Ok (record state { table = g.table; conjecture = Some g.tree }))
+
+abbrev pub statement_at : State → RawStatement → Outcome State
+statement_at state (RawStatement.formula x role f) = formula_at state x (premise_role role) f
+statement_at state (RawStatement.typing x subject top) = declare state.table subject top >>= λ table. Ok (record state { table = table })
+statement_at state (RawStatement.inclusion file names) = Ok state

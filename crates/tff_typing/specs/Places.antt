@@ -1,8 +1,9 @@
 -- Types in their places, and symbols at their arguments.
-use Rattle.std.specs.Prelude.{ℕ, zero, suc, ◌==◌, Bool, true, false, ◌&&◌, if◌then◌else◌, Option, Some, None, Ok, Err, length, nat_lt}
+use Rattle.std.specs.Prelude.{ℕ, zero, suc, ◌==◌, Bool, false, if◌then◌else◌, Option, Some, None, Ok, Err, length, nat_lt}
 use Rattle.zm_logic.specs.Tree.{Ty, Tys, Term, Terms, Form, Symbol, Sense, Binder}
 use Rattle.zm_logic.specs.Typing.{individual}
 use Rattle.zm_logic.specs.Opening.{type_instance, openings}
+use Rattle.zm_logic.specs.Same.{same_type}
 use Rattle.tptp_reader.specs.Raw.{Name, RawType, RawTypes, RawTerms}
 use Rattle.tff_typing.specs.Written.{number_of_types}
 use Rattle.tff_typing.specs.Scope.{Scope, Bound, look_up}
@@ -92,20 +93,6 @@ if_term n (Binder.of_term t) = Ok (Expression.term t (Term.eps n t))
 abbrev pub term_variable : Option Bound → Outcome Expression
 term_variable None = Err Fault.unbound
 term_variable (Some b) = if_term b.number b.binder
-
--- whether two types are equal
-abbrev mutual
-  pub same_type : Ty → Ty → Bool
-  same_type (Ty.bound i) (Ty.bound j) = i == j
-  same_type (Ty.param m) (Ty.param n) = m == n
-  same_type (Ty.meta m) (Ty.meta n) = m == n
-  same_type (Ty.con c ts) (Ty.con d us) = c == d && same_types ts us
-  same_type t u = false
-
-  pub same_types : Tys → Tys → Bool
-  same_types Tys.none Tys.none = true
-  same_types (Tys.more t ts) (Tys.more u us) = same_type t u && same_types ts us
-  same_types ts us = false
 
 -- a place that wants a type takes a term of that type
 abbrev pub wanted : Ty → Expression → Outcome Term

@@ -114,7 +114,7 @@ statement_in state (RawStatement.formula x role f) = formula_of state x (premise
 statement_in state (RawStatement.typing x subject top) = declare state.table subject top >>= λ table. Ok (record state { table = table })
 statement_in state (RawStatement.inclusion file names) = Ok state
 
--- the number of the first statement without a typing, with its first fault
+-- the number of the first statement without a typing, the symbols of the statements before it, and its first fault
 pub record Refusal : Type 0 where
   pub statement : ℕ
   pub symbols : List Symbol
@@ -130,7 +130,13 @@ then_typed (Err e) f = Err e
 
 abbrev pub statements_in : ℕ → State → List RawStatement → Result State Refusal
 statements_in n state [] = Ok state
-statements_in n state (x ∷ xs) = then_typed (refused_at n (symbols_of state.table) (statement_in state x)) (λ next. statements_in (suc n) next xs)
+statements_in n state (x ∷ xs) =
+    then_typed (refused_at n (symbols_of state.table) (statement_in state x)) (λ next. statements_in (suc n) next xs)
+
+-- the symbols that statements make
+abbrev pub symbols_if : Result State Refusal → List Symbol
+symbols_if (Ok state) = symbols_of state.table
+symbols_if (Err e) = []
 
 -- without a conjecture `$false` is to be proved
 abbrev pub to_prove : Option Form → Form

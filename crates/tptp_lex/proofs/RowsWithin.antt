@@ -11,7 +11,7 @@ use Rattle.tptp_lex.specs.Words.{is_small, is_capital, is_word, run, lower_lengt
 use Rattle.tptp_lex.specs.Quoted.{closes}
 use Rattle.tptp_lex.specs.Numbers.{is_digit, digit_first, fraction, signed_digits, exponent, unsigned, number_length}
 use Rattle.tptp_lex.specs.Signs.{spelling, begins}
-use Rattle.tptp_lex.specs.Tokens.{token_at, dollar_length, marked_length, sign_token, number_or, number_or_sign}
+use Rattle.tptp_lex.specs.Tokens.{token_at, dollar_length, marked_length, sign_token, number_or}
 use Rattle.tptp_lex.proofs.LongestSign.{first_is_longest}
 use Rattle.tptp_lex.proofs.RowsFit.{fits_spelling}
 

@@ -1,5 +1,5 @@
 -- A token has a byte.
-use Rattle.std.proofs.Common.{◌≡◌, ℕ, suc, ◌+◌, ◌-◌, ◌≤◌, ◌<◌, Bool, true, List, [], ◌∷◌, ◌++◌, length, drop, length-drop, length-append, refl, ◌∙◌, ap, arith}
+use Rattle.std.proofs.Common.{◌≡◌, ℕ, ◌+◌, ◌-◌, ◌≤◌, ◌<◌, Bool, List, ◌∷◌, length, drop, length-drop, length-append, refl, ◌∙◌, ap, arith}
 use Rattle.std.specs.Prelude.{◌≢◌}
 use Rattle.tptp_lex.specs.declared.lexer.Token.{Token}
 use Rattle.tptp_lex.specs.declared.token.TokenKind.{TokenKind}

@@ -16,13 +16,7 @@ fn behind_sign(opened: usize, sign: Sign) -> Option<usize>
     match sign {
         Sign::Open | Sign::OpenList => Some(opened + 1),
         Sign::Close | Sign::CloseList => opened.checked_sub(1),
-        Sign::Comma => {
-            if opened == 0 {
-                None
-            } else {
-                Some(opened)
-            }
-        }
+        Sign::Comma => { if opened == 0 { None } else { Some(opened) } }
         Sign::Stop
         | Sign::Colon
         | Sign::And

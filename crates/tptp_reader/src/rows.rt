@@ -134,7 +134,8 @@ fn unsupported_word(word: Defined) -> Option<UnsupportedForm>
 {
     match word {
         Defined::Other => Some(UnsupportedForm::DefinedWord),
-        Defined::True | Defined::False | Defined::Individual | Defined::Truth | Defined::Kind => None,
+        Defined::True | Defined::False | Defined::Individual | Defined::Truth | Defined::Kind =>
+            None,
     }
 }
 
@@ -175,7 +176,11 @@ fn token_row(lexemes: &[Lexeme]) -> Option<RefusedToken>
 }
 
 // The rows of a fof or tff statement, in their order.
-fn formula_rows(alloc: Global, word: &str, lexemes: &[Lexeme]) -> Result<Option<RefusedToken>, AllocError>
+fn formula_rows(
+    alloc: Global,
+    word: &str,
+    lexemes: &[Lexeme],
+) -> Result<Option<RefusedToken>, AllocError>
     ensures { IfOk result (λ r. option_map fault_of r ≡ formula_rows word.now (map seen lexemes.now)) }
 {
     if let Some(fault) = role_row(word, lexemes) {

@@ -3,7 +3,13 @@ use std::alloc::{AllocError, Global};
 use std::test::Fail;
 
 // The text with its middle part repeated.
-fn repeated(alloc: Global, front: &str, part: &str, times: usize, end: &str) -> Result<String, AllocError> {
+fn repeated(
+    alloc: Global,
+    front: &str,
+    part: &str,
+    times: usize,
+    end: &str,
+) -> Result<String, AllocError> {
     let mut text = String::from_str(alloc, front)?;
     for _ in 0..times {
         text.push_str(part)?;
@@ -13,7 +19,15 @@ fn repeated(alloc: Global, front: &str, part: &str, times: usize, end: &str) -> 
 }
 
 // A text with something opened and closed again as often.
-fn bracketed(alloc: Global, front: &str, open: &str, times: usize, middle: &str, close: &str, end: &str) -> Result<String, AllocError> {
+fn bracketed(
+    alloc: Global,
+    front: &str,
+    open: &str,
+    times: usize,
+    middle: &str,
+    close: &str,
+    end: &str,
+) -> Result<String, AllocError> {
     let behind = repeated(alloc, middle, close, times, end)?;
     repeated(alloc, front, open, times, behind.as_str())
 }
@@ -60,8 +74,20 @@ fn nesting(rt: HostRuntime) -> Result<(), Fail> {
     for (front, open, times, middle, close, end, place) in cases {
         let most = bracketed(alloc, front, open, times, middle, close, end)?;
         assert_eq!(rt; answered(alloc, most.as_str())?, "read", "at {front}{open}");
-        let more = bracketed(alloc, front, open, times + 1, middle, close, end)?;
-        assert_eq!(rt; too_deep_at(alloc, more.as_str()), place, "at {front}{open}");
+        let more = bracketed(
+            alloc,
+            front,
+            open,
+            times.saturating_add(1),
+            middle,
+            close,
+            end,
+        )?;
+        assert_eq!(rt;
+            too_deep_at(alloc, more.as_str()),
+            place,
+            "at {front}{open}"
+        );
     }
     Ok(())
 }
@@ -98,8 +124,12 @@ fn depth(rt: HostRuntime) -> Result<(), Fail> {
     for (front, part, times, end) in cases {
         let most = repeated(alloc, front, part, times, end)?;
         assert_eq!(rt; answered(alloc, most.as_str())?, "read", "at {front}{part}");
-        let more = repeated(alloc, front, part, times + 1, end)?;
-        assert_eq!(rt; answered(alloc, more.as_str())?, "too deep at its front", "at {front}{part}");
+        let more = repeated(alloc, front, part, times.saturating_add(1), end)?;
+        assert_eq!(rt;
+            answered(alloc, more.as_str())?,
+            "too deep at its front",
+            "at {front}{part}"
+        );
     }
     Ok(())
 }
@@ -127,16 +157,37 @@ fn order(rt: HostRuntime) -> Result<(), Fail> {
 fn large(rt: HostRuntime) -> Result<(), Fail> {
     let alloc = rt.alloc();
     let cases = [
-        (bracketed(alloc, "fof(a,axiom,p,", "([", 15_000, "a", "])", ").")?, "read"),
-        (repeated(alloc, "fof(a,axiom,p,", "(", 30_000, ").")?, "syntax at its front"),
+        (
+            bracketed(alloc, "fof(a,axiom,p,", "([", 15_000, "a", "])", ").")?,
+            "read",
+        ),
+        (
+            repeated(alloc, "fof(a,axiom,p,", "(", 30_000, ").")?,
+            "syntax at its front",
+        ),
         (repeated(alloc, "fof(a,axiom,p", ",", 30_000, ").")?, "read"),
-        (repeated(alloc, "fof(a,axiom,p(a", ",a", 30_000, ")).")?, "read"),
-        (repeated(alloc, "fof(a,axiom,p", "&p", 30_000, ").")?, "too deep at its front"),
-        (repeated(alloc, "fof(a,axiom,![X", ",X", 30_000, "]:p).")?, "too deep at its front"),
-        (repeated(alloc, "include('a',[a", ",a", 30_000, "]).")?, "read"),
+        (
+            repeated(alloc, "fof(a,axiom,p(a", ",a", 30_000, ")).")?,
+            "read",
+        ),
+        (
+            repeated(alloc, "fof(a,axiom,p", "&p", 30_000, ").")?,
+            "too deep at its front",
+        ),
+        (
+            repeated(alloc, "fof(a,axiom,![X", ",X", 30_000, "]:p).")?,
+            "too deep at its front",
+        ),
+        (
+            repeated(alloc, "include('a',[a", ",a", 30_000, "]).")?,
+            "read",
+        ),
         (repeated(alloc, "/*", "a", 30_000, "*/")?, "end"),
         (repeated(alloc, "", "%\n", 30_000, "")?, "end"),
-        (repeated(alloc, "foo(", "(", 30_000, ").")?, "syntax at its front"),
+        (
+            repeated(alloc, "foo(", "(", 30_000, ").")?,
+            "syntax at its front",
+        ),
     ];
     for (text, wanted) in &cases {
         assert_eq!(rt; answered(alloc, text.as_str())?, *wanted);

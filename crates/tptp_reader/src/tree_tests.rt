@@ -230,10 +230,7 @@ fn trees(rt: HostRuntime) -> Result<(), Fail> {
                 b"fof(a,corollary,p).",
                 "Formula { name: \"a\", role: Corollary, form: Plain(Name(\"p\", [])) }",
             ),
-            (
-                b"include('a').",
-                "Include { file: \"a\", names: None }",
-            ),
+            (b"include('a').", "Include { file: \"a\", names: None }"),
             (
                 b"include('a/b.ax',[c,'d e',1]).",
                 "Include { file: \"a/b.ax\", names: Some([\"c\", \"d e\", \"1\"]) }",

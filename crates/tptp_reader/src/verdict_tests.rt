@@ -416,7 +416,10 @@ fn declarations(rt: HostRuntime) -> Result<(), Fail> {
             (b"tff(a,type,p: (($i * $i) > $o)).", "read 0..32"),
             (b"tff(a,type,p: ($i)).", "read 0..20"),
             (b"tff(a,type,p: !> [A: $tType] : A).", "read 0..34"),
-            (b"tff(a,type,p: !>[A:$tType]: ((A * A) > $o)).", "read 0..44"),
+            (
+                b"tff(a,type,p: !>[A:$tType]: ((A * A) > $o)).",
+                "read 0..44",
+            ),
             (b"tff(a,type,p: !>[A] : A > A).", "read 0..29"),
             (b"tff(a,type,p: !>[A,B]: !>[C]: A).", "read 0..33"),
             (b"tff(a,type,p: (!>[A]: A)).", "read 0..26"),
@@ -500,4 +503,3 @@ fn order_of_the_rows(rt: HostRuntime) -> Result<(), Fail> {
         ],
     )
 }
-
