@@ -197,11 +197,11 @@ GivesStates (Ok state) xs = statements.statements_in 0 statements.start (raw_sta
 GivesStates (Err (halts.At n f)) xs =
     (n < length xs)
     × (statements.statements_in 0 statements.start (raw_statements xs)
-      ≡ Err (record {
-        statement = n;
-        symbols = statements.symbols_if (statements.statements_in 0 statements.start (raw_statements (take n xs)));
-        fault = fault_tree f;
-      }))
+    ≡ Err (record {
+      statement = n;
+      symbols = statements.symbols_if (statements.statements_in 0 statements.start (raw_statements (take n xs)));
+      fault = fault_tree f;
+    }))
 GivesStates (Err halts.Memory) xs = Unit {0}
 
 -- The refusal is the first fault of the first statement that has no typing, at the place of that statement.

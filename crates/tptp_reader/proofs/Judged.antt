@@ -1,5 +1,5 @@
 -- What the program answers to a wide statement is what the rows, the grammar and the depth give.
-use Rattle.std.proofs.Common.{◌≡◌, ℕ, ◌<◌, ◌≤◌, List, length, Option, Some, None, Result, Ok, Err, refl, sym, ◌∙◌, ap, subst, arith}
+use Rattle.std.proofs.Common.{◌≡◌, ℕ, ◌<◌, ◌≤◌, List, length, Option, Some, None, Result, Ok, Err, refl, sym, ◌∙◌, ap, subst}
 use Rattle.std.specs.Prelude.{map, slice_index, IfSome}
 use Rattle.std.specs.Option.{option_map}
 use Rattle.tptp_lex.specs.Lexing.{OnlyBlank}
@@ -7,23 +7,21 @@ use Rattle.tptp_reader.specs.declared.lexeme.Lexeme.{Lexeme}
 use Rattle.tptp_reader.specs.declared.parse.Parsed.{Parsed}
 use Rattle.tptp_reader.specs.declared.parse.Parsed.TheVariants as parsed
 use Rattle.tptp_reader.specs.declared.refusal.ReadRefusal.{ReadRefusal}
-use Rattle.tptp_reader.specs.declared.refusal.ReadRefusal.TheVariants as refusals
 use Rattle.tptp_reader.specs.declared.rows.RefusedToken.{RefusedToken}
 use Rattle.tptp_reader.specs.declared.statement.Body.{Body}
 use Rattle.tptp_reader.specs.declared.statement.Read.{Read}
 use Rattle.tptp_reader.specs.declared.statement.Read.TheVariants as read
-use Rattle.tptp_reader.specs.declared.statement.Statement.{Statement}
 use Rattle.tptp_reader.specs.declared.wide.Start.{Start}
 use Rattle.tptp_reader.specs.declared.wide.Start.TheVariants as starts
 use Rattle.tptp_reader.specs.declared.wide.Wide.{Wide}
 use Rattle.tptp_reader.specs.Accepted.{Accepts}
 use Rattle.tptp_reader.specs.Answered.{answer_of, refused, IfStatement}
-use Rattle.tptp_reader.specs.Answers.{Answer, Refusal, IsWide, refusal_at, Judges, faulty, ungrammatical, deeper, spelled, Answers, at_end, wide}
+use Rattle.tptp_reader.specs.Answers.{Answer, Refusal, IsWide, refusal_at, Judges, faulty, ungrammatical, deeper, spelled, Answers, wide}
 use Rattle.tptp_reader.specs.Counted.{fault_of}
 use Rattle.tptp_reader.specs.Grammar.{IsStatement}
 use Rattle.tptp_reader.specs.Parsing.{seen}
 use Rattle.tptp_reader.specs.Raw.{RawStatement}
-use Rattle.tptp_reader.specs.Rows.{Fault, early_fault}
+use Rattle.tptp_reader.specs.Rows.{early_fault}
 use Rattle.tptp_reader.specs.Scanning.{Begins}
 use Rattle.tptp_reader.specs.Tokens.{Token}
 use Rattle.tptp_reader.specs.View.{body_tree}

@@ -2,14 +2,12 @@
 use Rattle.std.proofs.Common.{◌≡◌, ℕ, ◌<◌, ◌≤◌, Bool, true, false, List, [], ◌∷◌, length, Option, Some, None, refl, sym, ◌∙◌, ap, subst, arith}
 use Rattle.std.specs.Prelude.{◌≢◌, slice_index, slice_range}
 use Rattle.tptp_lex.specs.declared.lexer.Token as lex
-use Rattle.tptp_lex.specs.declared.token.TokenKind.{TokenKind}
 use Rattle.tptp_lex.specs.declared.token.TokenKind.TheVariants.{End}
-use Rattle.tptp_lex.specs.declared.signs.Sign.TheVariants.{Open, Stop}
 use Rattle.tptp_lex.specs.Lexing.{IsNext, IsFault, OnlyBlank}
 use Rattle.tptp_lex.proofs.Laws.{one_next_token, next_not_fault, one_fault_place, blank_ends, blank_not_fault}
 use Rattle.tptp_lex.proofs.Shrinks.{next_has_byte}
 use Rattle.tptp_reader.specs.Raw.{RawStatement}
-use Rattle.tptp_reader.specs.Tokens.{Token, lower, upper, defined, quoted, distinct, number, sign, token_of, Tokens, none, one_more}
+use Rattle.tptp_reader.specs.Tokens.{Token, lower, upper, defined, quoted, distinct, number, sign, Tokens, none, one_more}
 use Rattle.tptp_reader.specs.Brackets.{Bracket, behind_closing, is_point, is_wide}
 use Rattle.tptp_reader.specs.Opened.{bracketed}
 use Rattle.tptp_reader.specs.Parsing.{then}

@@ -1,5 +1,5 @@
 -- How the program goes over a statement's tokens.
-use Rattle.std.specs.Prelude.{ℕ, zero, suc, ◌==◌, Bool, true, false, cond, List, [], ◌∷◌, map, reverse, Option, Some, None}
+use Rattle.std.specs.Prelude.{ℕ, zero, suc, Bool, true, false, List, ◌∷◌, map, reverse, Option, Some, None}
 use Rattle.tptp_lex.specs.declared.signs.Sign.TheVariants.{Open, Close, OpenList, CloseList, Comma, Minus}
 use Rattle.tptp_reader.specs.declared.nesting.Level.{Level}
 use Rattle.tptp_reader.specs.declared.nesting.Effect.{Effect}
@@ -8,7 +8,7 @@ use Rattle.tptp_reader.specs.declared.rows.RefusedToken.{RefusedToken}
 use Rattle.tptp_reader.specs.declared.rows.RefusedToken.TheVariants as refused
 use Rattle.tptp_reader.specs.Brackets.{Class, to_comma}
 use Rattle.tptp_reader.specs.Rows.{Fault}
-use Rattle.tptp_reader.specs.Tokens.{Token, lower, sign}
+use Rattle.tptp_reader.specs.Tokens.{Token, sign}
 
 -- the inner brackets open behind one more token of a part; nothing where the part ends before it
 abbrev pub part_behind : ℕ → Token → Option ℕ

@@ -1,6 +1,6 @@
 -- The reader's limits on statements.
-use Rattle.std.specs.Prelude.{◌≤◌, ℕ, List}
-use Rattle.tptp_reader.specs.Raw.{RawForm, RawTop, RawStatement, raw_type_depth, raw_types_depth, raw_term_depth, written_depth, raw_depth}
+use Rattle.std.specs.Prelude.{◌≤◌}
+use Rattle.tptp_reader.specs.Raw.{RawForm, RawStatement, raw_type_depth, raw_types_depth, raw_term_depth, written_depth, raw_depth}
 
 -- A level of a term or a type needs a bracket, and 200 brackets nest: each is at most 201 deep.
 abbrev pub IsNested : RawForm → Type 0

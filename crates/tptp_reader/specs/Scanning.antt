@@ -1,8 +1,8 @@
 -- How the tokens of a wide statement are taken one after another.
-use Rattle.std.specs.Prelude.{◌≡◌, ℕ, Bool, true, false, List, [], ◌∷◌, ◌++◌, map, slice_range, Option, Some, None, Result, Ok, Err}
+use Rattle.std.specs.Prelude.{◌≡◌, ℕ, Bool, true, false, List, [], ◌∷◌, ◌++◌, map, slice_range, Some}
 use Rattle.tptp_lex.specs.declared.lexer.Token as lex
 use Rattle.tptp_lex.specs.declared.token.TokenKind.TheVariants.{End}
-use Rattle.tptp_lex.specs.declared.signs.Sign.TheVariants.{Open, Stop}
+use Rattle.tptp_lex.specs.declared.signs.Sign.TheVariants.{Open}
 use Rattle.tptp_lex.specs.Lexing.{IsNext, OnlyBlank}
 use Rattle.tptp_reader.specs.Tokens.{Token, lower, sign, token_of, Tokens}
 use Rattle.tptp_reader.specs.declared.wide.Start.{Start}

@@ -1,6 +1,10 @@
 use crate::{Read, ReadRefusal, read_statement};
 use std::alloc::{AllocError, Global};
+use std::process::Abort;
 use std::test::Fail;
+
+// How often a part stands in a large text.
+const MANY: usize = 20_000;
 
 // The text with its middle part repeated.
 fn repeated(
@@ -153,44 +157,68 @@ fn order(rt: HostRuntime) -> Result<(), Fail> {
     Ok(())
 }
 
-#[test]
-fn large(rt: HostRuntime) -> Result<(), Fail> {
-    let alloc = rt.alloc();
-    let cases = [
-        (
-            bracketed(alloc, "fof(a,axiom,p,", "([", 15_000, "a", "])", ").")?,
-            "read",
-        ),
-        (
-            repeated(alloc, "fof(a,axiom,p,", "(", 30_000, ").")?,
-            "syntax at its front",
-        ),
-        (repeated(alloc, "fof(a,axiom,p", ",", 30_000, ").")?, "read"),
-        (
-            repeated(alloc, "fof(a,axiom,p(a", ",a", 30_000, ")).")?,
-            "read",
-        ),
-        (
-            repeated(alloc, "fof(a,axiom,p", "&p", 30_000, ").")?,
-            "too deep at its front",
-        ),
-        (
-            repeated(alloc, "fof(a,axiom,![X", ",X", 30_000, "]:p).")?,
-            "too deep at its front",
-        ),
-        (
-            repeated(alloc, "include('a',[a", ",a", 30_000, "]).")?,
-            "read",
-        ),
-        (repeated(alloc, "/*", "a", 30_000, "*/")?, "end"),
-        (repeated(alloc, "", "%\n", 30_000, "")?, "end"),
-        (
-            repeated(alloc, "foo(", "(", 30_000, ").")?,
-            "syntax at its front",
-        ),
-    ];
-    for (text, wanted) in &cases {
-        assert_eq!(rt; answered(alloc, text.as_str())?, *wanted);
-    }
+// A text with something opened and closed again is answered so.
+fn check_bracketed(
+    rt: &impl Abort,
+    alloc: Global,
+    parts: [&str; 5],
+    wanted: &str,
+) -> Result<(), Fail> {
+    let [front, open, middle, close, end] = parts;
+    let text = bracketed(alloc, front, open, MANY, middle, close, end)?;
+    assert_eq!(rt; answered(alloc, text.as_str())?, wanted, "at {front}{open}");
     Ok(())
+}
+
+// A text with a repeated part is answered so.
+fn check_repeated(
+    rt: &impl Abort,
+    alloc: Global,
+    parts: [&str; 3],
+    wanted: &str,
+) -> Result<(), Fail> {
+    let [front, part, end] = parts;
+    let text = repeated(alloc, front, part, MANY, end)?;
+    assert_eq!(rt; answered(alloc, text.as_str())?, wanted, "at {front}{part}");
+    Ok(())
+}
+
+#[test]
+fn large_statements(rt: HostRuntime) -> Result<(), Fail> {
+    let alloc = rt.alloc();
+    check_bracketed(
+        &rt,
+        alloc,
+        ["fof(a,axiom,p,", "([", "a", "])", ")."],
+        "read",
+    )?;
+    check_repeated(&rt, alloc, ["fof(a,axiom,p", ",", ")."], "read")?;
+    check_repeated(&rt, alloc, ["fof(a,axiom,p(a", ",a", "))."], "read")?;
+    check_repeated(&rt, alloc, ["include('a',[a", ",a", "])."], "read")?;
+    check_repeated(&rt, alloc, ["/*", "a", "*/"], "end")?;
+    check_repeated(&rt, alloc, ["", "%\n", ""], "end")
+}
+
+#[test]
+fn large_refusals(rt: HostRuntime) -> Result<(), Fail> {
+    let alloc = rt.alloc();
+    check_repeated(
+        &rt,
+        alloc,
+        ["fof(a,axiom,p,", "(", ")."],
+        "syntax at its front",
+    )?;
+    check_repeated(&rt, alloc, ["foo(", "(", ")."], "syntax at its front")?;
+    check_repeated(
+        &rt,
+        alloc,
+        ["fof(a,axiom,p", "&p", ")."],
+        "too deep at its front",
+    )?;
+    check_repeated(
+        &rt,
+        alloc,
+        ["fof(a,axiom,![X", ",X", "]:p)."],
+        "too deep at its front",
+    )
 }

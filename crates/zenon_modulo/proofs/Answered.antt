@@ -82,59 +82,59 @@ module _ (c : Call) (reads : ReadsAtMost (input_limit + 1) c.left c.left_now) (s
   searched : (command : Command) → IsCommand c.words command → (p : Problem) → IsProblem command.operand c.left c.files p → IsTaken command.operand c.left c.left_now → (o : Outcome)
       → Reports command.steps p o → IfSearched o (λ tree. All (λ k. k ≡ 0) (picks tree)) → IsAnswer c o
   searched command is p s taken (Proved t) r k = record {
-      proved = for_problem command is _ p s r;
-      falsified = tt;
-      unknown = tt;
-      picks = k;
-      refused = tt;
-      usage = tt;
-      no_words = λ e d. cc;
-      read_fault = λ e. cc;
-      library_fault = λ e. cc;
-      untouched = tt;
-      taken = for_operand command is (λ operand. IsTaken operand c.left c.left_now) taken;
-      cut = λ e. cc;
-      reads = reads;
-      source_later = source_later;
-      library_later = library_later;
-      no_write_fault = λ e. cc;
-    }
+    proved = for_problem command is _ p s r;
+    falsified = tt;
+    unknown = tt;
+    picks = k;
+    refused = tt;
+    usage = tt;
+    no_words = λ e d. cc;
+    read_fault = λ e. cc;
+    library_fault = λ e. cc;
+    untouched = tt;
+    taken = for_operand command is (λ operand. IsTaken operand c.left c.left_now) taken;
+    cut = λ e. cc;
+    reads = reads;
+    source_later = source_later;
+    library_later = library_later;
+    no_write_fault = λ e. cc;
+  }
   searched command is p s taken (Falsified v t) r k = record {
-      proved = tt;
-      falsified = for_problem command is _ p s r;
-      unknown = tt;
-      picks = k;
-      refused = tt;
-      usage = tt;
-      no_words = λ e d. cc;
-      read_fault = λ e. cc;
-      library_fault = λ e. cc;
-      untouched = tt;
-      taken = for_operand command is (λ operand. IsTaken operand c.left c.left_now) taken;
-      cut = λ e. cc;
-      reads = reads;
-      source_later = source_later;
-      library_later = library_later;
-      no_write_fault = λ e. cc;
-    }
+    proved = tt;
+    falsified = for_problem command is _ p s r;
+    unknown = tt;
+    picks = k;
+    refused = tt;
+    usage = tt;
+    no_words = λ e d. cc;
+    read_fault = λ e. cc;
+    library_fault = λ e. cc;
+    untouched = tt;
+    taken = for_operand command is (λ operand. IsTaken operand c.left c.left_now) taken;
+    cut = λ e. cc;
+    reads = reads;
+    source_later = source_later;
+    library_later = library_later;
+    no_write_fault = λ e. cc;
+  }
   searched command is p s taken (Unknown y t) r k = record {
-      proved = tt;
-      falsified = tt;
-      unknown = for_problem command is _ p s r;
-      picks = k;
-      refused = tt;
-      usage = tt;
-      no_words = λ e d. cc;
-      read_fault = λ e. cc;
-      library_fault = λ e. cc;
-      untouched = tt;
-      taken = for_operand command is (λ operand. IsTaken operand c.left c.left_now) taken;
-      cut = λ e. cc;
-      reads = reads;
-      source_later = source_later;
-      library_later = library_later;
-      no_write_fault = λ e. cc;
-    }
+    proved = tt;
+    falsified = tt;
+    unknown = for_problem command is _ p s r;
+    picks = k;
+    refused = tt;
+    usage = tt;
+    no_words = λ e d. cc;
+    read_fault = λ e. cc;
+    library_fault = λ e. cc;
+    untouched = tt;
+    taken = for_operand command is (λ operand. IsTaken operand c.left c.left_now) taken;
+    cut = λ e. cc;
+    reads = reads;
+    source_later = source_later;
+    library_later = library_later;
+    no_write_fault = λ e. cc;
+  }
   searched command is p s taken (Refused x) r k = absurd r
   searched command is p s taken (Usage x) r k = absurd r
   searched command is p s taken ReadFault r k = absurd r
@@ -144,92 +144,92 @@ module _ (c : Call) (reads : ReadsAtMost (input_limit + 1) c.left c.left_now) (s
 
   gather_answer : (g : GatherRefusal) → (command : Command) → IsCommand c.words command → IfTold command.operand c.left c.files (λ fs text. Explains command.operand fs text (Gather g)) → IsTaken command.operand c.left c.left_now → IsAnswer c (Refused (Gather g))
   gather_answer g command is x taken = record {
-      proved = tt;
-      falsified = tt;
-      unknown = tt;
-      picks = tt;
-      refused = record { command = command; is_command = is; holds = x };
-      usage = tt;
-      no_words = λ e d. cc;
-      read_fault = λ e. cc;
-      library_fault = λ e. cc;
-      untouched = tt;
-      taken = for_operand command is (λ operand. IsTaken operand c.left c.left_now) taken;
-      cut = λ e. absurd (two e);
-      reads = reads;
-      source_later = source_later;
-      library_later = library_later;
-      no_write_fault = λ e. cc;
-    }
+    proved = tt;
+    falsified = tt;
+    unknown = tt;
+    picks = tt;
+    refused = record { command = command; is_command = is; holds = x };
+    usage = tt;
+    no_words = λ e d. cc;
+    read_fault = λ e. cc;
+    library_fault = λ e. cc;
+    untouched = tt;
+    taken = for_operand command is (λ operand. IsTaken operand c.left c.left_now) taken;
+    cut = λ e. absurd (two e);
+    reads = reads;
+    source_later = source_later;
+    library_later = library_later;
+    no_write_fault = λ e. cc;
+  }
     where
       two : Refused (Gather g) ≡ Refused TooLarge → ⊥
       two e = apart_refusals (Gather g) TooLarge (λ d. cc) e
 
   typing_answer : (r : TypeRefusal) → (command : Command) → IsCommand c.words command → IfTold command.operand c.left c.files (λ fs text. Explains command.operand fs text (Typing r)) → IsTaken command.operand c.left c.left_now → IsAnswer c (Refused (Typing r))
   typing_answer r command is x taken = record {
-      proved = tt;
-      falsified = tt;
-      unknown = tt;
-      picks = tt;
-      refused = record { command = command; is_command = is; holds = x };
-      usage = tt;
-      no_words = λ e d. cc;
-      read_fault = λ e. cc;
-      library_fault = λ e. cc;
-      untouched = tt;
-      taken = for_operand command is (λ operand. IsTaken operand c.left c.left_now) taken;
-      cut = λ e. absurd (two e);
-      reads = reads;
-      source_later = source_later;
-      library_later = library_later;
-      no_write_fault = λ e. cc;
-    }
+    proved = tt;
+    falsified = tt;
+    unknown = tt;
+    picks = tt;
+    refused = record { command = command; is_command = is; holds = x };
+    usage = tt;
+    no_words = λ e d. cc;
+    read_fault = λ e. cc;
+    library_fault = λ e. cc;
+    untouched = tt;
+    taken = for_operand command is (λ operand. IsTaken operand c.left c.left_now) taken;
+    cut = λ e. absurd (two e);
+    reads = reads;
+    source_later = source_later;
+    library_later = library_later;
+    no_write_fault = λ e. cc;
+  }
     where
       two : Refused (Typing r) ≡ Refused TooLarge → ⊥
       two e = apart_refusals (Typing r) TooLarge (λ d. cc) e
 
   unbuilt_answer : (command : Command) → IsCommand c.words command → IfTold command.operand c.left c.files (λ fs text. Explains command.operand fs text NotBuilt) → IsTaken command.operand c.left c.left_now → IsAnswer c (Refused NotBuilt)
   unbuilt_answer command is x taken = record {
-      proved = tt;
-      falsified = tt;
-      unknown = tt;
-      picks = tt;
-      refused = record { command = command; is_command = is; holds = x };
-      usage = tt;
-      no_words = λ e d. cc;
-      read_fault = λ e. cc;
-      library_fault = λ e. cc;
-      untouched = tt;
-      taken = for_operand command is (λ operand. IsTaken operand c.left c.left_now) taken;
-      cut = λ e. absurd (two e);
-      reads = reads;
-      source_later = source_later;
-      library_later = library_later;
-      no_write_fault = λ e. cc;
-    }
+    proved = tt;
+    falsified = tt;
+    unknown = tt;
+    picks = tt;
+    refused = record { command = command; is_command = is; holds = x };
+    usage = tt;
+    no_words = λ e d. cc;
+    read_fault = λ e. cc;
+    library_fault = λ e. cc;
+    untouched = tt;
+    taken = for_operand command is (λ operand. IsTaken operand c.left c.left_now) taken;
+    cut = λ e. absurd (two e);
+    reads = reads;
+    source_later = source_later;
+    library_later = library_later;
+    no_write_fault = λ e. cc;
+  }
     where
       two : Refused NotBuilt ≡ Refused TooLarge → ⊥
       two e = apart_refusals NotBuilt TooLarge (λ d. cc) e
 
   pub too_large_answer : (command : Command) → IsCommand c.words command → IfTold command.operand c.left c.files (λ fs text. HasTooMany text) → IsCut command.operand c.left c.left_now → IsAnswer c (Refused TooLarge)
   too_large_answer command is x cut = record {
-      proved = tt;
-      falsified = tt;
-      unknown = tt;
-      picks = tt;
-      refused = record { command = command; is_command = is; holds = x };
-      usage = tt;
-      no_words = λ e d. cc;
-      read_fault = λ e. cc;
-      library_fault = λ e. cc;
-      untouched = tt;
-      taken = tt;
-      cut = λ e. for_operand command is (λ operand. IsCut operand c.left c.left_now) cut;
-      reads = reads;
-      source_later = source_later;
-      library_later = library_later;
-      no_write_fault = λ e. cc;
-    }
+    proved = tt;
+    falsified = tt;
+    unknown = tt;
+    picks = tt;
+    refused = record { command = command; is_command = is; holds = x };
+    usage = tt;
+    no_words = λ e d. cc;
+    read_fault = λ e. cc;
+    library_fault = λ e. cc;
+    untouched = tt;
+    taken = tt;
+    cut = λ e. for_operand command is (λ operand. IsCut operand c.left c.left_now) cut;
+    reads = reads;
+    source_later = source_later;
+    library_later = library_later;
+    no_write_fault = λ e. cc;
+  }
 
   pub refused_answer : (refusal : InputRefusal) (command : Command) → IsCommand c.words command → IfTold command.operand c.left c.files (λ fs text. Explains command.operand fs text refusal)
       → (refusal ≡ TooLarge → ⊥) → IsTaken command.operand c.left c.left_now → IsAnswer c (Refused refusal)
@@ -240,83 +240,83 @@ module _ (c : Call) (reads : ReadsAtMost (input_limit + 1) c.left c.left_now) (s
 
   pub read_fault_answer : (command : Command) → IsCommand c.words command → command.operand ≡ Operand.source → Rose c.source_faults c.source_faults_now → IsAnswer c ReadFault
   read_fault_answer command is s rose = record {
-      proved = tt;
-      falsified = tt;
-      unknown = tt;
-      picks = tt;
-      refused = tt;
-      usage = tt;
-      no_words = λ e d. cc;
-      read_fault = λ e. (for_operand command is (λ operand. operand ≡ Operand.source) s, rose);
-      library_fault = λ e. cc;
-      untouched = tt;
-      taken = tt;
-      cut = λ e. cc;
-      reads = reads;
-      source_later = source_later;
-      library_later = library_later;
-      no_write_fault = λ e. cc;
-    }
+    proved = tt;
+    falsified = tt;
+    unknown = tt;
+    picks = tt;
+    refused = tt;
+    usage = tt;
+    no_words = λ e d. cc;
+    read_fault = λ e. (for_operand command is (λ operand. operand ≡ Operand.source) s, rose);
+    library_fault = λ e. cc;
+    untouched = tt;
+    taken = tt;
+    cut = λ e. cc;
+    reads = reads;
+    source_later = source_later;
+    library_later = library_later;
+    no_write_fault = λ e. cc;
+  }
 
   pub library_fault_answer : (command : Command) → IsCommand c.words command → IsTaken command.operand c.left c.left_now → Rose c.library_faults c.library_faults_now → IsAnswer c LibraryFault
   library_fault_answer command is taken rose = record {
-      proved = tt;
-      falsified = tt;
-      unknown = tt;
-      picks = tt;
-      refused = tt;
-      usage = tt;
-      no_words = λ e d. cc;
-      read_fault = λ e. cc;
-      library_fault = λ e. (for_operand command is (λ operand. Unit {0}) tt, rose);
-      untouched = tt;
-      taken = for_operand command is (λ operand. IsTaken operand c.left c.left_now) taken;
-      cut = λ e. cc;
-      reads = reads;
-      source_later = source_later;
-      library_later = library_later;
-      no_write_fault = λ e. cc;
-    }
+    proved = tt;
+    falsified = tt;
+    unknown = tt;
+    picks = tt;
+    refused = tt;
+    usage = tt;
+    no_words = λ e d. cc;
+    read_fault = λ e. cc;
+    library_fault = λ e. (for_operand command is (λ operand. Unit {0}) tt, rose);
+    untouched = tt;
+    taken = for_operand command is (λ operand. IsTaken operand c.left c.left_now) taken;
+    cut = λ e. cc;
+    reads = reads;
+    source_later = source_later;
+    library_later = library_later;
+    no_write_fault = λ e. cc;
+  }
 
   pub memory_answer : (c.words ≡ [] → ⊥) → IsAnswer c Memory
   memory_answer some = record {
-      proved = tt;
-      falsified = tt;
-      unknown = tt;
-      picks = tt;
-      refused = tt;
-      usage = tt;
-      no_words = λ e d. some e;
-      read_fault = λ e. cc;
-      library_fault = λ e. cc;
-      untouched = tt;
-      taken = tt;
-      cut = λ e. cc;
-      reads = reads;
-      source_later = source_later;
-      library_later = library_later;
-      no_write_fault = λ e. cc;
-    }
+    proved = tt;
+    falsified = tt;
+    unknown = tt;
+    picks = tt;
+    refused = tt;
+    usage = tt;
+    no_words = λ e d. some e;
+    read_fault = λ e. cc;
+    library_fault = λ e. cc;
+    untouched = tt;
+    taken = tt;
+    cut = λ e. cc;
+    reads = reads;
+    source_later = source_later;
+    library_later = library_later;
+    no_write_fault = λ e. cc;
+  }
 
   pub usage_answer : (refusal : UsageRefusal) → IsMisuse c.words (misuse_of refusal) → c.left_now ≡ c.left → IsAnswer c (Usage refusal)
   usage_answer refusal m same = record {
-      proved = tt;
-      falsified = tt;
-      unknown = tt;
-      picks = tt;
-      refused = tt;
-      usage = m;
-      no_words = λ e d. cc;
-      read_fault = λ e. cc;
-      library_fault = λ e. cc;
-      untouched = same;
-      taken = tt;
-      cut = λ e. cc;
-      reads = reads;
-      source_later = source_later;
-      library_later = library_later;
-      no_write_fault = λ e. cc;
-    }
+    proved = tt;
+    falsified = tt;
+    unknown = tt;
+    picks = tt;
+    refused = tt;
+    usage = m;
+    no_words = λ e d. cc;
+    read_fault = λ e. cc;
+    library_fault = λ e. cc;
+    untouched = same;
+    taken = tt;
+    cut = λ e. cc;
+    reads = reads;
+    source_later = source_later;
+    library_later = library_later;
+    no_write_fault = λ e. cc;
+  }
 
   some_words : (command : Command) → IsCommand c.words command → c.words ≡ [] → ⊥
   some_words command is e = some_word c.words command is e

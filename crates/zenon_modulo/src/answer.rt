@@ -192,11 +192,7 @@ fn file_bytes(got: Got) -> Result<Vec<u8>, FileStop>
 }
 
 // Reads the file of the operand.
-fn read_file<L: Library>(
-    alloc: Global,
-    library: &mut L,
-    name: &str,
-) -> Result<Vec<u8>, FileStop>
+fn read_file<L: Library>(alloc: Global, library: &mut L, name: &str) -> Result<Vec<u8>, FileStop>
     ensures read { IsFileRead (L.files library.old) name.now result }
     ensures files { L.files library.new ≡ L.files library.old }
     ensures later { L.faults library.old ≤ L.faults library.new }

@@ -78,17 +78,72 @@ fn expect_all(rt: &impl Abort, alloc: Global, rows: &[(&str, u8, &str, &str)]) -
 
 const ANSWERS: [(&str, u8, &str, &str); 12] = [
     ("", 1, "falsified\n", ""),
-    ("fof(a,axiom,p&~p).\n", 0, "(; proved ;)\n(; picks: 0 ;)\n", ""),
-    ("fof(a,axiom,p).\nfof(b,axiom,~p).\n", 0, "(; proved ;)\n(; picks: ;)\n", ""),
-    ("fof(c,conjecture,p=>p).\n", 0, "(; proved ;)\n(; picks: 0 ;)\n", ""),
-    ("fof(c,conjecture,p|q).\n", 1, "falsified\np = false\nq = false\n", ""),
-    ("fof(c,conjecture,((p=>q)=>p)=>p).\n", 0, "(; proved ;)\n(; picks: 0,0,0 ;)\n", ""),
-    ("fof(c,conjecture,q=>p).fof(a,axiom,p=>q).\n", 1, "falsified\np = false\nq = true\n", ""),
-    ("fof(c,conjecture,p<=>p). % end\n", 0, "(; proved ;)\n(; picks: 0 ;)\n", ""),
-    ("fof(a,axiom,'p').\nfof(c,conjecture,p & (goal | ~goal)).\n", 0, "(; proved ;)\n(; picks: 0,0 ;)\n", ""),
-    ("fof(a,axiom,'P q'|r).\n", 1, "falsified\n'P q' = true\nr = false\n", ""),
-    ("tff(p_type,type,p: $o).\ntff(c,conjecture,p=>p).\n", 0, "(; proved ;)\n(; picks: 0 ;)\n", ""),
-    ("/* nothing */ fof(1,axiom,p). fof('1',conjecture,p,[notes(a,b)]).\n", 0, "(; proved ;)\n(; picks: ;)\n", ""),
+    (
+        "fof(a,axiom,p&~p).\n",
+        0,
+        "(; proved ;)\n(; picks: 0 ;)\n",
+        "",
+    ),
+    (
+        "fof(a,axiom,p).\nfof(b,axiom,~p).\n",
+        0,
+        "(; proved ;)\n(; picks: ;)\n",
+        "",
+    ),
+    (
+        "fof(c,conjecture,p=>p).\n",
+        0,
+        "(; proved ;)\n(; picks: 0 ;)\n",
+        "",
+    ),
+    (
+        "fof(c,conjecture,p|q).\n",
+        1,
+        "falsified\np = false\nq = false\n",
+        "",
+    ),
+    (
+        "fof(c,conjecture,((p=>q)=>p)=>p).\n",
+        0,
+        "(; proved ;)\n(; picks: 0,0,0 ;)\n",
+        "",
+    ),
+    (
+        "fof(c,conjecture,q=>p).fof(a,axiom,p=>q).\n",
+        1,
+        "falsified\np = false\nq = true\n",
+        "",
+    ),
+    (
+        "fof(c,conjecture,p<=>p). % end\n",
+        0,
+        "(; proved ;)\n(; picks: 0 ;)\n",
+        "",
+    ),
+    (
+        "fof(a,axiom,'p').\nfof(c,conjecture,p & (goal | ~goal)).\n",
+        0,
+        "(; proved ;)\n(; picks: 0,0 ;)\n",
+        "",
+    ),
+    (
+        "fof(a,axiom,'P q'|r).\n",
+        1,
+        "falsified\n'P q' = true\nr = false\n",
+        "",
+    ),
+    (
+        "tff(p_type,type,p: $o).\ntff(c,conjecture,p=>p).\n",
+        0,
+        "(; proved ;)\n(; picks: 0 ;)\n",
+        "",
+    ),
+    (
+        "/* nothing */ fof(1,axiom,p). fof('1',conjecture,p,[notes(a,b)]).\n",
+        0,
+        "(; proved ;)\n(; picks: ;)\n",
+        "",
+    ),
 ];
 
 #[test]
@@ -97,30 +152,130 @@ fn answers_problems(rt: HostRuntime) -> Result<(), Fail> {
 }
 
 const REFUSALS: [(&str, u8, &str, &str); 24] = [
-    ("fof(c,conjecture,p=>p).\nfof(d,conjecture,q).\n", 3, "", "refused: second conjecture at -:24\n"),
+    (
+        "fof(c,conjecture,p=>p).\nfof(d,conjecture,q).\n",
+        3,
+        "",
+        "refused: second conjecture at -:24\n",
+    ),
     ("fof(c,conjecture,'p", 3, "", "refused: syntax at -:0\n"),
-    ("fof(c,conjecture,p(1)).\n", 3, "", "refused: unsupported numeral at -:19\n"),
-    ("fof(c,conjecture,\"p\").\n", 3, "", "refused: unsupported distinct object at -:17\n"),
-    ("fof(c,conjecture,$less(a,b)).\n", 3, "", "refused: unsupported defined word at -:17\n"),
-    ("fof(c,conjecture,p@q).\n", 3, "", "refused: unsupported operator at -:18\n"),
-    (" cnf(c,axiom,p).\n", 3, "", "refused: unsupported statement at -:1\n"),
-    ("fof(c,plain,p).\n", 3, "", "refused: unsupported role at -:6\n"),
-    ("tff(c,conjecture,p(X)).\n", 3, "", "refused: unbound at -:0\n"),
-    ("tff(a,type,p: $o).\ntff(b,type,p: $i).\n", 3, "", "refused: redeclared at -:19\n"),
-    ("tff(a,type,p: $i > $o).\ntff(c,conjecture,p).\n", 3, "", "refused: arity at -:24\n"),
-    ("tff(a,type,p: foo > $o).\n", 3, "", "refused: not a type at -:0\n"),
-    ("tff(c,conjecture,p($i)).\n", 3, "", "refused: not a term at -:0\n"),
-    ("tff(c,conjecture,? [A: $tType] : $true).\n", 3, "", "refused: type quantifier at -:0\n"),
-    ("tff(s,type,set: $tType > $tType).\ntff(f,type,f: !>[A: $tType]: (set(A) > $o)).\ntff(a,type,a: $i).\ntff(c,conjecture,f($i,a)).\n", 3, "", "refused: mismatch at -:98, wanted set($i), got $i\n"),
-    ("tff(s,type,'S': ($tType * $tType) > $tType).\ntff(p,type,p: 'S'($i,$i) > $o).\ntff(c,conjecture,! [X: $i] : p(X)).\n", 3, "", "refused: mismatch at -:77, wanted 'S'($i,$i), got $i\n"),
-    ("tff(c,conjecture,! [A: $tType,X: A] : (X = a)).\n", 3, "", "refused: mismatch at -:0, wanted X0, got $i\n"),
-    ("fof(c,conjecture,a = p & p).\nfof(d,axiom,q(a) & a).\n", 3, "", "refused: mismatch at -:0, wanted $o, got $i\n"),
+    (
+        "fof(c,conjecture,p(1)).\n",
+        3,
+        "",
+        "refused: unsupported numeral at -:19\n",
+    ),
+    (
+        "fof(c,conjecture,\"p\").\n",
+        3,
+        "",
+        "refused: unsupported distinct object at -:17\n",
+    ),
+    (
+        "fof(c,conjecture,$less(a,b)).\n",
+        3,
+        "",
+        "refused: unsupported defined word at -:17\n",
+    ),
+    (
+        "fof(c,conjecture,p@q).\n",
+        3,
+        "",
+        "refused: unsupported operator at -:18\n",
+    ),
+    (
+        " cnf(c,axiom,p).\n",
+        3,
+        "",
+        "refused: unsupported statement at -:1\n",
+    ),
+    (
+        "fof(c,plain,p).\n",
+        3,
+        "",
+        "refused: unsupported role at -:6\n",
+    ),
+    (
+        "tff(c,conjecture,p(X)).\n",
+        3,
+        "",
+        "refused: unbound at -:0\n",
+    ),
+    (
+        "tff(a,type,p: $o).\ntff(b,type,p: $i).\n",
+        3,
+        "",
+        "refused: redeclared at -:19\n",
+    ),
+    (
+        "tff(a,type,p: $i > $o).\ntff(c,conjecture,p).\n",
+        3,
+        "",
+        "refused: arity at -:24\n",
+    ),
+    (
+        "tff(a,type,p: foo > $o).\n",
+        3,
+        "",
+        "refused: not a type at -:0\n",
+    ),
+    (
+        "tff(c,conjecture,p($i)).\n",
+        3,
+        "",
+        "refused: not a term at -:0\n",
+    ),
+    (
+        "tff(c,conjecture,? [A: $tType] : $true).\n",
+        3,
+        "",
+        "refused: type quantifier at -:0\n",
+    ),
+    (
+        "tff(s,type,set: $tType > $tType).\ntff(f,type,f: !>[A: $tType]: (set(A) > $o)).\ntff(a,type,a: $i).\ntff(c,conjecture,f($i,a)).\n",
+        3,
+        "",
+        "refused: mismatch at -:98, wanted set($i), got $i\n",
+    ),
+    (
+        "tff(s,type,'S': ($tType * $tType) > $tType).\ntff(p,type,p: 'S'($i,$i) > $o).\ntff(c,conjecture,! [X: $i] : p(X)).\n",
+        3,
+        "",
+        "refused: mismatch at -:77, wanted 'S'($i,$i), got $i\n",
+    ),
+    (
+        "tff(c,conjecture,! [A: $tType,X: A] : (X = a)).\n",
+        3,
+        "",
+        "refused: mismatch at -:0, wanted X0, got $i\n",
+    ),
+    (
+        "fof(c,conjecture,a = p & p).\nfof(d,axiom,q(a) & a).\n",
+        3,
+        "",
+        "refused: mismatch at -:0, wanted $o, got $i\n",
+    ),
     ("include('x.ax').\n", 3, "", "refused: missing file x.ax\n"),
-    ("fof(c,conjecture,! [X] : p(X)).\n", 3, "", "refused: not built\n"),
+    (
+        "fof(c,conjecture,! [X] : p(X)).\n",
+        3,
+        "",
+        "refused: not built\n",
+    ),
     ("fof(c,conjecture,a = a).\n", 3, "", "refused: not built\n"),
     ("fof(c,conjecture,p(a)).\n", 3, "", "refused: not built\n"),
-    ("fof(a,axiom,p(a)).\nfof(c,conjecture,q).\n", 3, "", "refused: not built\n"),
-    ("tff(p,type,p: !>[A: $tType]: $o).\ntff(c,conjecture,p($i)).\n", 3, "", "refused: not built\n"),
+    (
+        "fof(a,axiom,p(a)).\nfof(c,conjecture,q).\n",
+        3,
+        "",
+        "refused: not built\n",
+    ),
+    (
+        "tff(p,type,p: !>[A: $tType]: $o).\ntff(c,conjecture,p($i)).\n",
+        3,
+        "",
+        "refused: not built\n",
+    ),
 ];
 
 #[test]
@@ -142,16 +297,40 @@ const TABLES: [(&str, u8); 34] = [
     ("fof(c,conjecture,(p~|p)<=>p).", 1),
     ("fof(c,conjecture,(p<=q)<=>(q=>p)).", 0),
     ("fof(c,conjecture,(p<=q)<=>(p=>q)).", 1),
-    ("fof(a0,axiom,p<=>q).fof(a1,axiom,q<=>r).fof(c,conjecture,p<=>r).", 0),
-    ("fof(a0,axiom,p<~>q).fof(a1,axiom,q<~>r).fof(c,conjecture,p<=>r).", 0),
-    ("fof(a0,axiom,p<~>q).fof(a1,axiom,q<~>r).fof(c,conjecture,p<~>r).", 1),
-    ("fof(a0,axiom,p~&q).fof(a1,axiom,p).fof(c,conjecture,~q).", 0),
+    (
+        "fof(a0,axiom,p<=>q).fof(a1,axiom,q<=>r).fof(c,conjecture,p<=>r).",
+        0,
+    ),
+    (
+        "fof(a0,axiom,p<~>q).fof(a1,axiom,q<~>r).fof(c,conjecture,p<=>r).",
+        0,
+    ),
+    (
+        "fof(a0,axiom,p<~>q).fof(a1,axiom,q<~>r).fof(c,conjecture,p<~>r).",
+        1,
+    ),
+    (
+        "fof(a0,axiom,p~&q).fof(a1,axiom,p).fof(c,conjecture,~q).",
+        0,
+    ),
     ("fof(a0,axiom,p~|q).fof(c,conjecture,~p&~q).", 0),
     ("fof(a0,axiom,p~&q).fof(c,conjecture,~p).", 1),
-    ("fof(a0,axiom,p=>q).fof(a1,axiom,q=>r).fof(a2,axiom,r=>p).fof(c,conjecture,(p<=>q)&(q<=>r)).", 0),
-    ("fof(a0,axiom,p<=q).fof(a1,axiom,q<=r).fof(a2,axiom,r).fof(c,conjecture,p).", 0),
-    ("fof(a0,axiom,p|q|r).fof(a1,axiom,~p).fof(a2,axiom,~q).fof(c,conjecture,r).", 0),
-    ("fof(a0,axiom,p|q|r).fof(a1,axiom,~p).fof(c,conjecture,q).", 1),
+    (
+        "fof(a0,axiom,p=>q).fof(a1,axiom,q=>r).fof(a2,axiom,r=>p).fof(c,conjecture,(p<=>q)&(q<=>r)).",
+        0,
+    ),
+    (
+        "fof(a0,axiom,p<=q).fof(a1,axiom,q<=r).fof(a2,axiom,r).fof(c,conjecture,p).",
+        0,
+    ),
+    (
+        "fof(a0,axiom,p|q|r).fof(a1,axiom,~p).fof(a2,axiom,~q).fof(c,conjecture,r).",
+        0,
+    ),
+    (
+        "fof(a0,axiom,p|q|r).fof(a1,axiom,~p).fof(c,conjecture,q).",
+        1,
+    ),
     ("fof(c,conjecture,((p<=>q)<~>r)<=>(p<=>(q<~>r))).", 0),
     ("fof(a0,axiom,$false).fof(c,conjecture,p).", 0),
     ("fof(a0,axiom,$true).fof(c,conjecture,p).", 1),
@@ -160,10 +339,19 @@ const TABLES: [(&str, u8); 34] = [
     ("fof(a0,axiom,p<=>~p).", 0),
     ("fof(a0,axiom,p<=>q).fof(a1,axiom,p<~>q).", 0),
     ("fof(a0,axiom,p).fof(a1,axiom,q).fof(a2,axiom,p<=>q).", 1),
-    ("fof(a0,axiom,(p&q)<=>r).fof(a1,axiom,p).fof(a2,axiom,q).fof(c,conjecture,r).", 0),
-    ("fof(a0,axiom,(p&q)<=>r).fof(a1,axiom,r).fof(c,conjecture,p<~>q).", 1),
+    (
+        "fof(a0,axiom,(p&q)<=>r).fof(a1,axiom,p).fof(a2,axiom,q).fof(c,conjecture,r).",
+        0,
+    ),
+    (
+        "fof(a0,axiom,(p&q)<=>r).fof(a1,axiom,r).fof(c,conjecture,p<~>q).",
+        1,
+    ),
     ("fof(c,conjecture,~(p&~p)&(p|~p)).", 0),
-    ("fof(a0,axiom,p=>(q<=>r)).fof(a1,axiom,p).fof(a2,axiom,~r).fof(c,conjecture,~q).", 0),
+    (
+        "fof(a0,axiom,p=>(q<=>r)).fof(a1,axiom,p).fof(a2,axiom,~r).fof(c,conjecture,~q).",
+        0,
+    ),
 ];
 
 fn decides(rt: &impl Abort, alloc: Global, rows: &[(&str, u8)]) -> Result<(), Fail> {
@@ -222,7 +410,13 @@ fn includes_files(rt: HostRuntime) -> Result<(), Fail> {
     ];
     for (operand, status, out, diag) in rows {
         let mut input = QuietSource::new(Vec::new(alloc));
-        let seen = see(alloc, &["prove", operand], &mut input, &files, Vec::new(alloc))?;
+        let seen = see(
+            alloc,
+            &["prove", operand],
+            &mut input,
+            &files,
+            Vec::new(alloc),
+        )?;
         expect(&rt, &seen, status, out, diag);
     }
     Ok(())
@@ -256,9 +450,21 @@ fn keeps_to_its_limits(rt: HostRuntime) -> Result<(), Fail> {
     more.extend_from_slice(&spaces)?;
     more.push(b' ')?;
     let words = ["prove", "-"];
-    let seen = see(alloc, &words, &mut QuietSource::new(spaces), &[], Vec::new(alloc))?;
+    let seen = see(
+        alloc,
+        &words,
+        &mut QuietSource::new(spaces),
+        &[],
+        Vec::new(alloc),
+    )?;
     expect(&rt, &seen, 1, "falsified\n", "");
-    let seen = see(alloc, &words, &mut QuietSource::new(more), &[], Vec::new(alloc))?;
+    let seen = see(
+        alloc,
+        &words,
+        &mut QuietSource::new(more),
+        &[],
+        Vec::new(alloc),
+    )?;
     expect(&rt, &seen, 3, "", "refused: too large\n");
     Ok(())
 }
@@ -286,7 +492,13 @@ fn are_misuses(rt: &impl Abort, alloc: Global, calls: &[&[&str]]) -> Result<(), 
     for words in calls {
         let mut input = QuietSource::new(Vec::new(alloc));
         let seen = see(alloc, words, &mut input, &[], Vec::new(alloc))?;
-        expect(rt, &seen, 4, "", "usage: zenon_modulo prove FILE [options] | check FILE [options] | gen K [options]\n");
+        expect(
+            rt,
+            &seen,
+            4,
+            "",
+            "usage: zenon_modulo prove FILE [options] | check FILE [options] | gen K [options]\n",
+        );
     }
     Ok(())
 }

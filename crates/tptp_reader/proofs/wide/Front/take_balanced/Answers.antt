@@ -1,7 +1,7 @@
 use Rattle.std.proofs.Common.{◌≡◌, ℕ, List, Bool, true, false, cond, Option, Some, None, refl, ap, sym, ◌∙◌, subst}
 use Rattle.tptp_reader.specs.Brackets.{Bracket}
 use Rattle.tptp_reader.specs.Scanning.{NotWide}
-use Rattle.tptp_reader.proofs.Awaited.{brackets_awaited, brackets_crossed, brackets_missing, brackets_closed, takes_further, further, some_takes}
+use Rattle.tptp_reader.proofs.Awaited.{brackets_awaited, brackets_crossed, brackets_missing, takes_further, further, some_takes}
 use Rattle.tptp_reader.proofs.wide.Front.take_balanced.Goals as goal
 
 not_there : (text other : List ℕ) (from : ℕ) → text ≡ other → NotWide text from → NotWide other from

@@ -1,4 +1,4 @@
-use Rattle.std.proofs.Common.{◌≡◌, true, false, [], ◌∷◌}
+use Rattle.std.proofs.Common.{true, false, [], ◌∷◌}
 use Rattle.tptp_reader.specs.Brackets.{Bracket, is_wide}
 use Rattle.tptp_reader.specs.Scanning.{opens, closes, nothing}
 use Rattle.tptp_reader.proofs.Awaited.{moves_then, moves_as, open_moves, point_moves}
