@@ -9,3 +9,8 @@ ghost use Rattle.tff_typing.specs.Statements.{problem_in, AreWithinLimits};
 pub fn typed_problems()
     ensures { (statements : List RawStatement) (p : Problem) → AreWithinLimits statements → problem_in statements ≡ Ok p → IsTypedProblem p }
 {}
+
+/// Statements make at most one problem.
+pub fn one_problem()
+    ensures { (statements : List RawStatement) (p q : Problem) → problem_in statements ≡ Ok p → problem_in statements ≡ Ok q → p ≡ q }
+{}
