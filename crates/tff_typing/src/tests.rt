@@ -362,8 +362,17 @@ fn pairs_of_faults(rt: HostRuntime) -> Result<(), Fail> {
     check_pairs(&rt, alloc, FAULTY_TERMS, "q", ",")
 }
 
-// A predicate at so many constants, each with a name of its own.
-fn many_names(alloc: Global, count: usize) -> Result<String, AllocError> {
+// So many axioms, each with one new name.
+fn many_axioms(alloc: Global, count: usize) -> Result<String, AllocError> {
+    let mut text = String::new(alloc);
+    for i in 0..count {
+        write!(text, "fof(a,axiom,p{i}).")?;
+    }
+    Ok(text)
+}
+
+// One axiom at so many constants, each with one new name.
+fn many_constants(alloc: Global, count: usize) -> Result<String, AllocError> {
     let mut text = String::from_str(alloc, "fof(a,axiom,q(")?;
     for i in 0..count {
         write!(text, "c{i},")?;
@@ -372,13 +381,28 @@ fn many_names(alloc: Global, count: usize) -> Result<String, AllocError> {
     Ok(text)
 }
 
+// In the unoptimized build that `rt try` makes this takes minutes: it wants `--seconds 600`.
 #[test]
-fn most_symbols(rt: HostRuntime) -> Result<(), Fail> {
+fn most_symbols_of_axioms(rt: HostRuntime) -> Result<(), Fail> {
     let alloc = rt.alloc();
-    let most = many_names(alloc, 65_535)?;
+    let mut text = many_axioms(alloc, 65_536)?;
+    let found = answer(alloc, "", 65_536, text.as_str())?;
+    assert_eq!(&rt; found.as_str(), "ok");
+    let last = text.len();
+    write!(text, "fof(a,axiom,one_more).")?;
+    let refused = answer(alloc, "", 65_536, text.as_str())?;
+    let wanted = format!(in alloc; "{last} too many symbols")?;
+    assert_eq!(&rt; refused.as_str(), wanted.as_str());
+    Ok(())
+}
+
+#[test]
+fn most_symbols_of_one_axiom(rt: HostRuntime) -> Result<(), Fail> {
+    let alloc = rt.alloc();
+    let most = many_constants(alloc, 65_535)?;
     let found = answer(alloc, "", 65_536, most.as_str())?;
     assert_eq!(&rt; found.as_str(), "ok");
-    let more = many_names(alloc, 65_536)?;
+    let more = many_constants(alloc, 65_536)?;
     let refused = answer(alloc, "", 65_536, more.as_str())?;
     assert_eq!(&rt; refused.as_str(), "0 too many symbols");
     Ok(())
