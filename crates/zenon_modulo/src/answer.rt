@@ -133,6 +133,7 @@ fn answer_text<L: Library>(
     requires { length bytes.now ≤ input_limit }
     ensures answer { AnswersText (L.files library.old) name.now bytes.now steps result.outcome result.text.items }
     ensures message { IfRefused result.outcome (λ refusal. result.message.items ≡ spec_refusal_text refusal) }
+    ensures files { L.files library.new ≡ L.files library.old }
     ensures later { L.faults library.old ≤ L.faults library.new }
     ensures library { result.outcome ≡ Outcome.LibraryFault → Rose (L.faults library.old) (L.faults library.new) }
 {
@@ -154,6 +155,7 @@ fn answer_source<S: Source, L: Library>(
     ensures text { (words : List Word) → IsCommand words (record { operand = OperandTree.source; steps = steps })
         → IsTextOf (call_of words (S.left input.old) (S.left input.new) (S.faults input.old) (S.faults input.new) (L.files library.old) (L.faults library.old) (L.faults library.new)) result.outcome result.text.items }
     ensures message { IfRefused result.outcome (λ refusal. result.message.items ≡ spec_refusal_text refusal) }
+    ensures files { L.files library.new ≡ L.files library.old }
 {
     match read_to_limit(alloc, input, INPUT_LIMIT) {
         Ok(bytes) => answer_text(alloc, library, "-", &bytes, steps),
@@ -224,6 +226,7 @@ fn answer_file<L: Library>(alloc: Global, steps: u32, library: &mut L, name: &st
     ensures text { (words : List Word) (left : Option (List ℕ)) (faults : ℕ) → IsCommand words (record { operand = OperandTree.file name.now; steps = steps })
         → IsTextOf (call_of words left left faults faults (L.files library.old) (L.faults library.old) (L.faults library.new)) result.outcome result.text.items }
     ensures message { IfRefused result.outcome (λ refusal. result.message.items ≡ spec_refusal_text refusal) }
+    ensures files { L.files library.new ≡ L.files library.old }
 {
     match read_file(alloc, library, name) {
         Ok(bytes) => answer_text(alloc, library, name, &bytes, steps),
@@ -246,6 +249,7 @@ fn answer_command<S: Source, L: Library>(
     ensures text { (words : List Word) → IsCommand words (command_tree command.now)
         → IsTextOf (call_of words (S.left input.old) (S.left input.new) (S.faults input.old) (S.faults input.new) (L.files library.old) (L.faults library.old) (L.faults library.new)) result.outcome result.text.items }
     ensures message { IfRefused result.outcome (λ refusal. result.message.items ≡ spec_refusal_text refusal) }
+    ensures files { L.files library.new ≡ L.files library.old }
 {
     match &command.operand {
         Operand::Source => answer_source(alloc, command.steps, input, library),
@@ -264,6 +268,7 @@ pub fn answer<S: Source, L: Library>(
     ensures answered { IsAnswer (call_of (map string_bytes words.now) (S.left input.old) (S.left input.new) (S.faults input.old) (S.faults input.new) (L.files library.old) (L.faults library.old) (L.faults library.new)) result.outcome }
     ensures text { IsTextOf (call_of (map string_bytes words.now) (S.left input.old) (S.left input.new) (S.faults input.old) (S.faults input.new) (L.files library.old) (L.faults library.old) (L.faults library.new)) result.outcome result.text.items }
     ensures message { IfRefused result.outcome (λ refusal. result.message.items ≡ spec_refusal_text refusal) }
+    ensures files { L.files library.new ≡ L.files library.old }
 {
     match read_words(alloc, words) {
         Ok(command) => answer_command(alloc, &command, input, library),

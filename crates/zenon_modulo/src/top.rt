@@ -131,11 +131,12 @@ pub fn run<S: Source, L: Library, K: Sink, E: Sink>(
     ensures library_fault { result.outcome ≡ Outcome.LibraryFault → ForOperand (map string_bytes words.now) (λ operand. Unit {0}) × Rose (L.faults library.old) (L.faults library.new) }
     ensures write_fault { result.outcome ≡ Outcome.WriteFault → Rose (K.faults out.old) (K.faults out.new) ⊎ Rose (E.faults diag.old) (E.faults diag.new) }
 
-    // What is read, and what is left of the source.
+    // What is read, and what is left of the source and of the library.
     ensures untouched { IfUsage result.outcome (λ misuse. S.left input.new ≡ S.left input.old) }
     ensures taken { IfRead result.outcome (ForOperand (map string_bytes words.now) (λ operand. IsTaken operand (S.left input.old) (S.left input.new))) }
     ensures cut { result.outcome ≡ Outcome.Refused InputRefusal.TooLarge → ForOperand (map string_bytes words.now) (λ operand. IsCut operand (S.left input.old) (S.left input.new)) }
     ensures reads { ReadsAtMost (input_limit + 1) (S.left input.old) (S.left input.new) }
+    ensures files { L.files library.new ≡ L.files library.old }
 
     // What is written.
     ensures written { UnlessWriteFault result.outcome (IsWritten (call_of (map string_bytes words.now) (S.left input.old) (S.left input.new) (S.faults input.old) (S.faults input.new) (L.files library.old) (L.faults library.old) (L.faults library.new)) result.outcome (K.held out.old) (K.held out.new) (E.held diag.old) (E.held diag.new)) }
