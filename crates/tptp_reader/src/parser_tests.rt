@@ -42,7 +42,7 @@ fn unmarked<'a>(word: &'a str) -> Result<&'a str, Fail> {
 }
 
 // The tokens of a text.
-pub fn lexemes<'a>(alloc: Global, text: &'a str) -> Result<Vec<Lexeme<'a>>, Fail> {
+pub(crate) fn lexemes<'a>(alloc: Global, text: &'a str) -> Result<Vec<Lexeme<'a>>, Fail> {
     let mut lexer = Lexer::new(text.as_bytes());
     let mut found = Vec::new(alloc);
     for _ in 0..=text.len() {
