@@ -1,5 +1,9 @@
 -- What is found by how far each row goes. It is the next token or the fault of the table, as the lexer's contract says.
-use Rattle.std.specs.Prelude.{◌≡◌, ◌≤◌, ℕ, ◌-◌, List, length, drop, Some, None}
+use Rattle.std.specs.Prelude.{◌≡◌, ◌≤◌, ℕ, ◌-◌, List, ◌∷◌, length, drop, Some, None}
+use Rattle.std.specs.List.{find}
+use Rattle.tptp_lex.specs.declared.signs.Sign.{Sign}
+use Rattle.tptp_lex.specs.declared.signs.TheConstants.{SIGNS}
+use Rattle.tptp_lex.specs.Signs.{begins}
 use Rattle.tptp_lex.specs.declared.lexer.Token.{Token}
 use Rattle.tptp_lex.specs.Blank.{Skips}
 use Rattle.tptp_lex.specs.Tokens.{token_at}
@@ -18,3 +22,7 @@ pub record FindsNone (text : List ℕ) (from at : ℕ) : Type 0 where
   pub none : token_at (drop at text) ≡ None
   pub after : from ≤ at
   pub within : at ≤ length text
+
+-- A first byte tells this sign, whatever stands behind it: it is the first of the table that fits.
+abbrev pub IsTold : ℕ → Sign → Type 0
+IsTold b s = (bytes : List ℕ) → find (begins (b ∷ bytes)) SIGNS ≡ Some s

@@ -1,6 +1,7 @@
 ghost use Rattle.std.specs.Prelude.{◌≡◌, ◌≤◌, length, IfSome};
 ghost use Rattle.std.specs.List.{find};
 ghost use Rattle.tptp_lex.specs.Signs.{spelling, begins, IsLongestSign};
+ghost use Rattle.tptp_lex.specs.Found.{IsTold};
 
 /// A sign.
 #[derive(Clone, Copy, Debug, PartialEq, Eq)]
@@ -117,11 +118,50 @@ fn first_of(signs: &[Sign], bytes: &[u8]) -> Option<Sign>
     None
 }
 
+// The sign of one byte that this byte tells: no longer sign begins with it.
+fn alone(byte: u8) -> Option<Sign>
+    ensures { IfSome result (IsTold byte) }
+{
+    match byte {
+        b'(' => Some(Sign::Open),
+        b')' => Some(Sign::Close),
+        b',' => Some(Sign::Comma),
+        b'.' => Some(Sign::Stop),
+        b'[' => Some(Sign::OpenList),
+        b']' => Some(Sign::CloseList),
+        b':' => Some(Sign::Colon),
+        b'&' => Some(Sign::And),
+        b'|' => Some(Sign::Or),
+        b'?' => Some(Sign::Exists),
+        b'>' => Some(Sign::Arrow),
+        b'*' => Some(Sign::Star),
+        b'@' => Some(Sign::At),
+        b'^' => Some(Sign::Caret),
+        b'+' => Some(Sign::Plus),
+        b'-' => Some(Sign::Minus),
+        _ => None,
+    }
+}
+
+// The first sign of the table that the bytes begin with.
+fn table_sign(bytes: &[u8]) -> Option<Sign>
+    ensures value { result ≡ find (begins bytes.now) SIGNS }
+    ensures within { IfSome result (λ s. length (spelling s) ≤ length bytes.now) }
+{
+    match bytes {
+        [] => None,
+        [first, ..] => match alone(*first) {
+            Some(sign) => Some(sign),
+            None => first_of(&SIGNS, bytes),
+        },
+    }
+}
+
 /// The longest sign that the bytes begin with.
 pub fn sign_at(bytes: &[u8]) -> Option<Sign>
     ensures value { result ≡ find (begins bytes.now) SIGNS }
     ensures within { IfSome result (λ s. length (spelling s) ≤ length bytes.now) }
     ensures longest { IfSome result (IsLongestSign bytes.now) }
 {
-    first_of(&SIGNS, bytes)
+    table_sign(bytes)
 }

@@ -5,6 +5,7 @@ pub mod Chains
 pub mod Constructors
 pub mod Counting
 pub mod Endings
+pub mod Few
 pub mod FormsComplete
 pub mod FormsSound
 pub mod Innermost

@@ -176,6 +176,10 @@ pub fn nested(alloc: Global, lexemes: &[Lexeme]) -> Result<Option<usize>, AllocE
     ensures value { IfOk result (λ n. n ≡ nested 200 unnested (map seen lexemes.now)) }
     ensures within { IfOk result (λ n. IfSome n (λ k. k < length lexemes.now)) }
 {
+    // As few tokens open no more than may be.
+    if lexemes.len() <= MOST_OPEN as usize {
+        return Ok(None);
+    }
     let mut nesting = Nesting::new(alloc);
     let mut count = 0;
     let mut rest = lexemes;

@@ -110,11 +110,12 @@ pub fn formula_start(lexemes: &[Lexeme]) -> usize
     1 + part_end(lexemes, role_start(lexemes))
 }
 
-/// The formula part: what stands between the second and the third comma, or the closing bracket.
-pub fn formula_part<'t, 'a>(lexemes: &'t [Lexeme<'a>]) -> &'t [Lexeme<'a>]
+/// The formula part, which begins at `start`: what stands between the second and the third comma, or the closing bracket.
+pub fn formula_part<'t, 'a>(lexemes: &'t [Lexeme<'a>], start: usize) -> &'t [Lexeme<'a>]
+    requires { start ≡ formula_start (map seen lexemes.now) }
     ensures value { map seen result.now ≡ formula_part (map seen lexemes.now) }
     ensures within { length result.now ≤ length lexemes.now }
 {
-    let rest = tokens_from(lexemes, formula_start(lexemes));
+    let rest = tokens_from(lexemes, start);
     &rest[..to_comma(rest)]
 }

@@ -2,7 +2,7 @@ ghost use Rattle.std.specs.Prelude.{◌≡◌, ◌≤◌, ◌+◌, ◌<◌, ◌^
 ghost use Rattle.std.specs.Option.{option_map};
 ghost use Rattle.tptp_reader.specs.Counted.{fault_of, has_subrole};
 ghost use Rattle.tptp_reader.specs.Parsing.{seen};
-ghost use Rattle.tptp_reader.specs.Rows.{is_formula_word, is_other_word, is_role, role_fault, role_row, nesting_row, token_row, unsupported_form, unsupported_from, formula_rows, early_fault};
+ghost use Rattle.tptp_reader.specs.Rows.{Fault, is_formula_word, is_other_word, is_role, role_fault, role_row, nested, unnested, unsupported_form, unsupported_from, formula_rows, early_fault};
 ghost use Rattle.tptp_reader.specs.Tokens as tokens;
 
 use crate::lexeme::{Defined, Lexeme};
@@ -89,11 +89,17 @@ fn role_row(word: &str, lexemes: &[Lexeme]) -> Option<RefusedToken>
     role_fault(word, start, tokens_from(lexemes, start))
 }
 
-fn nesting_row(alloc: Global, lexemes: &[Lexeme]) -> Result<Option<RefusedToken>, AllocError>
-    ensures { IfOk result (λ r. option_map fault_of r ≡ nesting_row (map seen lexemes.now)) }
+// The first token of a part at which too much is open; the tokens are numbered from `start` on.
+fn nested_from(
+    alloc: Global,
+    start: usize,
+    part: &[Lexeme],
+) -> Result<Option<RefusedToken>, AllocError>
+    requires { start + length part.now < 2 ^ 64 }
+    ensures { IfOk result (λ r. option_map fault_of r ≡ option_map (λ n. Fault.too_deep (start + n)) (nested 200 unnested (map seen part.now))) }
 {
-    match nested(alloc, formula_part(lexemes))? {
-        Some(count) => Ok(Some(RefusedToken::TooDeep(formula_start(lexemes) + count))),
+    match nested(alloc, part)? {
+        Some(count) => Ok(Some(RefusedToken::TooDeep(start + count))),
         None => Ok(None),
     }
 }
@@ -169,12 +175,6 @@ fn unsupported_from(start: usize, lexemes: &[Lexeme]) -> Option<RefusedToken>
     None
 }
 
-fn token_row(lexemes: &[Lexeme]) -> Option<RefusedToken>
-    ensures { option_map fault_of result ≡ token_row (map seen lexemes.now) }
-{
-    unsupported_from(formula_start(lexemes), formula_part(lexemes))
-}
-
 // The rows of a fof or tff statement, in their order.
 fn formula_rows(
     alloc: Global,
@@ -186,10 +186,12 @@ fn formula_rows(
     if let Some(fault) = role_row(word, lexemes) {
         return Ok(Some(fault));
     }
-    if let Some(fault) = nesting_row(alloc, lexemes)? {
+    let start = formula_start(lexemes);
+    let part = formula_part(lexemes, start);
+    if let Some(fault) = nested_from(alloc, start, part)? {
         return Ok(Some(fault));
     }
-    Ok(token_row(lexemes))
+    Ok(unsupported_from(start, part))
 }
 
 /// The first token that the rows before the grammar refuse, if they refuse one.
@@ -198,11 +200,11 @@ pub fn early_fault(alloc: Global, lexemes: &[Lexeme]) -> Result<Option<RefusedTo
 {
     match lexemes {
         [Lexeme::Lower(word), ..] => {
-            if is_other_word(word) {
-                return Ok(Some(RefusedToken::Unsupported(UnsupportedForm::Statement, 0)));
-            }
             if is_formula_word(word) {
                 return formula_rows(alloc, word, lexemes);
+            }
+            if is_other_word(word) {
+                return Ok(Some(RefusedToken::Unsupported(UnsupportedForm::Statement, 0)));
             }
             Ok(None)
         }

@@ -43,6 +43,9 @@ fn is_lower(lexeme: &Lexeme) -> bool
     }
 }
 
+// For so many tokens there is room from the first on, as most statements have no more.
+const ROOM: usize = 40;
+
 /// Tokens of a text taken one after another, each with its place.
 #[derive(Drop)]
 pub struct Front<'a> {
@@ -66,16 +69,16 @@ impl<'a> Model for Front<'a> {
 
 impl<'a> Front<'a> {
     // Nothing is taken yet.
-    fn new(alloc: Global, bytes: &'a [u8], at: usize) -> Self
+    fn new(alloc: Global, bytes: &'a [u8], at: usize) -> Result<Self, AllocError>
         requires { at ≤ length bytes.now }
-        ensures { result ≡ record { text = bytes.now; tokens = []; places = []; reached = at } }
+        ensures { IfOk result (λ f. f ≡ record { text = bytes.now; tokens = []; places = []; reached = at }) }
     {
-        Front {
+        Ok(Front {
             bytes,
             lexer: Lexer::at(bytes, at),
-            lexemes: Vec::new(alloc),
-            marks: Vec::new(alloc),
-        }
+            lexemes: Vec::with_capacity(alloc, ROOM)?,
+            marks: Vec::with_capacity(alloc, ROOM)?,
+        })
     }
 
     // What is taken.
@@ -199,7 +202,7 @@ pub fn wide_at<'a>(alloc: Global, bytes: &'a [u8], at: usize) -> Result<Start<'a
     if first.kind == TokenKind::End {
         return Ok(Start::End);
     }
-    let mut front = Front::new(alloc, bytes, at);
+    let mut front = Front::new(alloc, bytes, at)?;
     if !front.take_statement(alloc)? {
         return Ok(Start::Refused(first.start));
     }

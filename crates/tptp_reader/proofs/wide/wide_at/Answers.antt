@@ -10,11 +10,11 @@ returns-in-Err-clause-begins c = fault_answer _ _ _ _ _ c.at-lexer.ensures.text 
 pub returns-then-not-branch-clause-begins : goal.returns-then-not-branch-clause-begins
 returns-then-not-branch-clause-begins c =
     refused_answer _ _ _ _ c.in-Ok.first c.at-lexer.ensures.text c.at-lexer.ensures.place c.in-Ok.ensures.token (search rules)
-    (whole_refused _ _ c.new-front.result c.take_statement.new.self c.new-front.ensures
-    (moves_as _ false c.new-front.result c.take_statement.new.self is_wide nothing c.in_ok-take_statement.ensures c.if-not-branch.true))
+    (whole_refused _ _ c.in_ok-front.front c.take_statement.new.self c.in_ok-front.ensures
+    (moves_as _ false c.in_ok-front.front c.take_statement.new.self is_wide nothing c.in_ok-take_statement.ensures c.if-not-branch.true))
 
 pub returns-clause-begins : goal.returns-clause-begins
 returns-clause-begins c =
-    whole_wide _ _ c.new-front.result c.take_statement.new.self _ _ _ c.new-front.ensures
-    (moves_as _ true c.new-front.result c.take_statement.new.self is_wide nothing c.in_ok-take_statement.ensures c.if-not-branch.false)
+    whole_wide _ _ c.in_ok-front.front c.take_statement.new.self _ _ _ c.in_ok-front.ensures
+    (moves_as _ true c.in_ok-front.front c.take_statement.new.self is_wide nothing c.in_ok-take_statement.ensures c.if-not-branch.false)
     c.taken.ensures.tokens c.taken.ensures.places c.taken.ensures.after
