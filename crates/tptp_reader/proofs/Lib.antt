@@ -8,6 +8,7 @@ pub mod Endings
 pub mod Few
 pub mod FormsComplete
 pub mod FormsSound
+pub mod FormulaWords
 pub mod Innermost
 pub mod Judged
 pub mod Levels

@@ -170,16 +170,12 @@ impl Nesting {
     }
 }
 
-/// How many tokens stand before the first at which more than 200 brackets, negations and quantifiers are open; none where
-/// there is no such token.
-pub fn nested(alloc: Global, lexemes: &[Lexeme]) -> Result<Option<usize>, AllocError>
+// How many tokens stand before the first at which more than 200 brackets, negations and quantifiers are open; none where
+// there is no such token.
+fn nested(alloc: Global, lexemes: &[Lexeme]) -> Result<Option<usize>, AllocError>
     ensures value { IfOk result (λ n. n ≡ nested 200 unnested (map seen lexemes.now)) }
     ensures within { IfOk result (λ n. IfSome n (λ k. k < length lexemes.now)) }
 {
-    // As few tokens open no more than may be.
-    if lexemes.len() <= MOST_OPEN as usize {
-        return Ok(None);
-    }
     let mut nesting = Nesting::new(alloc);
     let mut count = 0;
     let mut rest = lexemes;
@@ -191,4 +187,16 @@ pub fn nested(alloc: Global, lexemes: &[Lexeme]) -> Result<Option<usize>, AllocE
         rest = others;
     }
     Ok(None)
+}
+
+/// How many tokens stand before the first at which more than 200 brackets, negations and quantifiers are open; none where
+/// there is no such token. Up to 200 tokens need not be gone over.
+pub fn nested_part(alloc: Global, lexemes: &[Lexeme]) -> Result<Option<usize>, AllocError>
+    ensures value { IfOk result (λ n. n ≡ nested 200 unnested (map seen lexemes.now)) }
+    ensures within { IfOk result (λ n. IfSome n (λ k. k < length lexemes.now)) }
+{
+    if lexemes.len() <= MOST_OPEN as usize {
+        return Ok(None);
+    }
+    nested(alloc, lexemes)
 }

@@ -6,7 +6,7 @@ ghost use Rattle.tptp_reader.specs.Rows.{Fault, is_formula_word, is_other_word, 
 ghost use Rattle.tptp_reader.specs.Tokens as tokens;
 
 use crate::lexeme::{Defined, Lexeme};
-use crate::nesting::nested;
+use crate::nesting::nested_part;
 use crate::parts::{formula_part, formula_start, role_start, tokens_from};
 use crate::refusal::UnsupportedForm;
 use crate::roles::role_of;
@@ -98,7 +98,7 @@ fn nested_from(
     requires { start + length part.now < 2 ^ 64 }
     ensures { IfOk result (λ r. option_map fault_of r ≡ option_map (λ n. Fault.too_deep (start + n)) (nested 200 unnested (map seen part.now))) }
 {
-    match nested(alloc, part)? {
+    match nested_part(alloc, part)? {
         Some(count) => Ok(Some(RefusedToken::TooDeep(start + count))),
         None => Ok(None),
     }
