@@ -1,6 +1,6 @@
 -- As few tokens as may be open at one place open no more.
 use Rattle.std.proofs.Common.{◌≡◌, ℕ, suc, ◌+◌, ◌<◌, ◌≤◌, List, [], ◌∷◌, length, Option, Some, None, cond, refl, sym, ◌∙◌, ap, arith}
-use Rattle.std.specs.Prelude.{nat_le, map}
+use Rattle.std.specs.Prelude.{map}
 use Rattle.std.specs.Option.{option_map}
 use Rattle.std.proofs.lemmas.Bool.{lt-leb}
 use Rattle.std.proofs.lemmas.List.{length-map}

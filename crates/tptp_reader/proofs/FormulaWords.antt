@@ -5,7 +5,7 @@ use Rattle.std.specs.Str.{bytes_eq}
 use Rattle.std.proofs.lemmas.Slice.Eq.{bytes_eq-Decides}
 use Rattle.tptp_reader.specs.declared.refusal.UnsupportedForm.TheVariants as forms
 use Rattle.tptp_reader.specs.Tokens.{Token, lower}
-use Rattle.tptp_reader.specs.Rows.{Fault, or_else, is_formula_word, is_other_word, statement_row, formula_rows, early_fault}
+use Rattle.tptp_reader.specs.Rows.{Fault, or_else, is_formula_word, is_other_word, formula_rows, early_fault}
 
 not_other : (word : List ℕ) (b c : Bool) → bytes_eq word (codes "fof") ≡ b → bytes_eq word (codes "tff") ≡ c → (b || c) ≡ true → is_other_word word ≡ false
 not_other word true c e f h = ap (λ (w : List ℕ). is_other_word w) ((bytes_eq-Decides word (codes "fof")).0 e)
