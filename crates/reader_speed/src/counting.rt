@@ -23,7 +23,8 @@ pub fn counted(alloc: Global, bytes: &[u8]) -> Count
     let mut reached = 0;
     loop {
         match read_statement(alloc, bytes, reached) {
-            Ok(Read::Statement(_, after)) => {
+            Ok(Read::Statement(statement, after)) => {
+                drop(statement);
                 statements += 1;
                 reached = after;
             }
