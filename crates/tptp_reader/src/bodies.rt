@@ -116,7 +116,10 @@ impl<'t, 'a> Parser<'t, 'a> {
                 let formula = self.ended_formula(typed)?;
                 match formula {
                     Built::TooDeep => Ok(Parsed::TooDeep),
-                    Built::Whole(form, _) => Ok(Parsed::Body(Body::Formula { name, role, form })),
+                    Built::Whole(form, _) => {
+                        let form = form.into_inner();
+                        Ok(Parsed::Body(Body::Formula { name, role, form }))
+                    }
                 }
             }
         }

@@ -17,7 +17,7 @@ pub const DEPTH: u32 = 1000;
 /// A formula with its depth, or that it is too deep. No deeper one is ever made.
 #[derive(Drop)]
 pub enum Built {
-    Whole(RawForm, u32),
+    Whole(Boxed<RawForm>, u32),
     TooDeep,
 }
 
@@ -30,36 +30,44 @@ pub enum Joint {
     Iff,
 }
 
+// A formula of this depth.
+fn kept(alloc: Global, form: RawForm, depth: u32) -> Result<Built, AllocError>
+    ensures { IfOk result (λ b. kept_tree b ≡ whole (raw_form_tree form) depth) }
+{
+    let form = Boxed::new(alloc, form)?;
+    Ok(Built::Whole(form, depth))
+}
+
 /// `$true` or `$false`.
-pub fn constant(value: bool) -> Built
-    ensures { kept_tree result ≡ truth_of limited value }
+pub fn constant(alloc: Global, value: bool) -> Result<Built, AllocError>
+    ensures { IfOk result (λ b. kept_tree b ≡ truth_of limited value) }
 {
     if value {
-        return Built::Whole(RawForm::True, 1);
+        return kept(alloc, RawForm::True, 1);
     }
-    Built::Whole(RawForm::False, 1)
+    kept(alloc, RawForm::False, 1)
 }
 
 /// The atom.
-pub fn plain(term: RawTerm) -> Built
-    ensures { kept_tree result ≡ limited.of_plain (raw_term_tree term) }
+pub fn plain(alloc: Global, term: RawTerm) -> Result<Built, AllocError>
+    ensures { IfOk result (λ b. kept_tree b ≡ limited.of_plain (raw_term_tree term)) }
 {
     let depth = term_depth(&term);
     if depth > DEPTH {
-        return Built::TooDeep;
+        return Ok(Built::TooDeep);
     }
-    Built::Whole(RawForm::Plain(term), depth)
+    kept(alloc, RawForm::Plain(term), depth)
 }
 
 /// The equation of two terms.
-pub fn equal(left: RawTerm, right: RawTerm) -> Built
-    ensures { kept_tree result ≡ limited.of_equal (raw_term_tree left) (raw_term_tree right) }
+pub fn equal(alloc: Global, left: RawTerm, right: RawTerm) -> Result<Built, AllocError>
+    ensures { IfOk result (λ b. kept_tree b ≡ limited.of_equal (raw_term_tree left) (raw_term_tree right)) }
 {
     let inside = greater(term_depth(&left), term_depth(&right));
     if inside >= DEPTH {
-        return Built::TooDeep;
+        return Ok(Built::TooDeep);
     }
-    Built::Whole(RawForm::Equal(left, right), 1 + inside)
+    kept(alloc, RawForm::Equal(left, right), 1 + inside)
 }
 
 /// The negation.
@@ -72,7 +80,7 @@ pub fn negated(alloc: Global, inner: Built) -> Result<Built, AllocError>
             if depth >= DEPTH {
                 return Ok(Built::TooDeep);
             }
-            Ok(Built::Whole(RawForm::Not(Boxed::new(alloc, form)?), 1 + depth))
+            kept(alloc, RawForm::Not(form), 1 + depth)
         }
     }
 }
@@ -88,37 +96,11 @@ fn joint_form(joint: Joint, first: Boxed<RawForm>, second: Boxed<RawForm>) -> Ra
     }
 }
 
-// The two joined, the second in a box.
-fn joined_boxed(
-    alloc: Global,
-    joint: Joint,
-    first: RawForm,
-    second: Boxed<RawForm>,
-) -> Result<RawForm, AllocError>
-    ensures { IfOk result (λ f. raw_form_tree f ≡ raw.RawForm.binary (joint_connective joint) (raw_form_tree first) (raw_form_tree second)) }
-{
-    let first = Boxed::new(alloc, first)?;
-    Ok(joint_form(joint, first, second))
-}
-
-// The two joined.
-fn joined_whole(
-    alloc: Global,
-    joint: Joint,
-    first: RawForm,
-    second: RawForm,
-) -> Result<RawForm, AllocError>
-    ensures { IfOk result (λ f. raw_form_tree f ≡ raw.RawForm.binary (joint_connective joint) (raw_form_tree first) (raw_form_tree second)) }
-{
-    let second = Boxed::new(alloc, second)?;
-    joined_boxed(alloc, joint, first, second)
-}
-
 // The two joined, where the second isn't too deep.
 fn joined_second(
     alloc: Global,
     joint: Joint,
-    first: RawForm,
+    first: Boxed<RawForm>,
     depth: u32,
     second: Built,
 ) -> Result<Built, AllocError>
@@ -131,7 +113,7 @@ fn joined_second(
             if inside >= DEPTH {
                 return Ok(Built::TooDeep);
             }
-            Ok(Built::Whole(joined_whole(alloc, joint, first, second)?, 1 + inside))
+            kept(alloc, joint_form(joint, first, second), 1 + inside)
         }
     }
 }
@@ -214,8 +196,7 @@ fn bound(alloc: Global, binder: Binder, variable: RawVar, body: Built) -> Result
             if inside >= DEPTH {
                 return Ok(Built::TooDeep);
             }
-            let form = Boxed::new(alloc, form)?;
-            Ok(Built::Whole(binder_form(binder, variable, form), 1 + inside))
+            kept(alloc, binder_form(binder, variable, form), 1 + inside)
         }
     }
 }

@@ -53,14 +53,17 @@ impl<'t, 'a> Parser<'t, 'a> {
     {
         if self.take(Sign::Equal) {
             let right = self.term(typed, room)?;
-            return Ok(equal(left, right));
+            let equation = equal(self.alloc, left, right)?;
+            return Ok(equation);
         }
         if self.take(Sign::NotEqual) {
             let right = self.term(typed, room)?;
-            let equation = negated(self.alloc, equal(left, right))?;
-            return Ok(equation);
+            let equation = equal(self.alloc, left, right)?;
+            let inequation = negated(self.alloc, equation)?;
+            return Ok(inequation);
         }
-        Ok(plain(left))
+        let formula = plain(self.alloc, left)?;
+        Ok(formula)
     }
 
     // A unit that begins with no sign: `$true`, `$false`, an atom or an equation.
@@ -70,7 +73,10 @@ impl<'t, 'a> Parser<'t, 'a> {
         ensures shrinks { length self.new.rest.now ≤ length self.old.rest.now }
     {
         match self.truth_value() {
-            Some(value) => Ok(constant(value)),
+            Some(value) => {
+                let formula = constant(self.alloc, value)?;
+                Ok(formula)
+            }
             None => {
                 let left = self.term(typed, room)?;
                 self.compared(typed, room, left)
