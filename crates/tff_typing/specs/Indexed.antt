@@ -70,12 +70,6 @@ abbrev pub indexed_variable : ℕ → Option Bound → Outcome Expression
 indexed_variable k None = Err Fault.unbound
 indexed_variable k (Some b) = if_indexed_term k b.number b.binder
 
--- the parts after the first n
-abbrev pub rest : ℕ → RawTerms → RawTerms
-rest zero us = us
-rest (suc n) RawTerms.none = RawTerms.none
-rest (suc n) (RawTerms.more u us) = rest n us
-
 -- a symbol without its name
 pub record Taken : Type 0 where
   pub number : ℕ

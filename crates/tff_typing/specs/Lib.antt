@@ -5,5 +5,6 @@ pub mod Fault
 pub mod Places
 pub mod Typing
 pub mod Statements
+pub mod Rules
 pub mod Indexed
 pub mod View

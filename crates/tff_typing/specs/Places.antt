@@ -109,3 +109,9 @@ abbrev pub first : ℕ → RawTerms → RawTerms
 first zero us = RawTerms.none
 first (suc n) RawTerms.none = RawTerms.none
 first (suc n) (RawTerms.more u us) = RawTerms.more u (first n us)
+
+-- the parts after the first n
+abbrev pub rest : ℕ → RawTerms → RawTerms
+rest zero us = us
+rest (suc n) RawTerms.none = RawTerms.none
+rest (suc n) (RawTerms.more u us) = rest n us
