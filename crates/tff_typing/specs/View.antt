@@ -31,6 +31,7 @@ use Rattle.tff_typing.specs.declared.forms.Quantifier.{Quantifier}
 use Rattle.tff_typing.specs.declared.forms.Quantifier.TheVariants as quantifiers
 use Rattle.tptp_reader.specs.Raw as raw
 use Rattle.tff_typing.specs.Statements as statements
+use Rattle.tff_typing.specs.Rules.{MakeProblem}
 use Rattle.tff_typing.specs.declared.state.State.{State}
 use Rattle.tff_typing.specs.declared.problem.Halt.{Halt}
 use Rattle.tff_typing.specs.declared.problem.Halt.TheVariants as halts
@@ -215,8 +216,9 @@ pub record Refuses (list : List Placed) (r : TypeRefusal) : Type 0 where
   pub file : r.place.file ≡ placed.file
   pub place : r.place.at ≡ placed.at
 
--- What the program answers: the problem of the statements, or their refusal; of want of memory nothing is said.
+-- What the program answers: the problem that the statements make by the rules, or their refusal; of want of memory nothing
+-- is said.
 abbrev pub Types : List Placed → Result Problem TypeStop → Type 0
-Types list (Ok p) = statements.problem_in (map (λ p. p.statement) list) ≡ Ok (problem_tree p)
+Types list (Ok p) = MakeProblem (map (λ p. p.statement) list) (problem_tree p)
 Types list (Err (type_stops.Refused r)) = Refuses list r
 Types list (Err type_stops.Memory) = Unit {0}
