@@ -1,13 +1,16 @@
 -- The rules and the functions agree.
-use Rattle.std.proofs.Common.{◌≡◌, ◌↔◌, Bool, Ok, List}
+use Rattle.std.proofs.Common.{◌≡◌, ◌↔◌, Bool, Ok, List, sym, ◌∙◌}
 use Rattle.zm_logic.specs.Tree.{Ty, Form, Problem}
+use Rattle.zm_logic.specs.Problem.{IsTypedProblem}
 use Rattle.tptp_reader.specs.Raw.{RawType, RawTerm, RawForm, RawStatement}
 use Rattle.tff_typing.specs.Scope.{Scope}
 use Rattle.tff_typing.specs.Table.{Table, Place}
 use Rattle.tff_typing.specs.Places.{Expression, type_in}
 use Rattle.tff_typing.specs.Typing.{expression_in, form_in}
-use Rattle.tff_typing.specs.Statements.{State, statement_in, problem_in}
+use Rattle.tff_typing.specs.Statements.{State, statement_in, problem_in, AreWithinLimits}
 use Rattle.tff_typing.specs.Rules.{DenotesType, DenotesExpression, DenotesForm, MakesState, MakeProblem}
+use Rattle.tff_typing.proofs.StatementsTyped.{typed_same}
+use Rattle.tff_typing.proofs.Problems.{problem_is_typed}
 use Rattle.tff_typing.proofs.RulesGive.{type_given, expression_given, form_given}
 use Rattle.tff_typing.proofs.RulesHold.{type_holds, expression_holds, form_holds}
 use Rattle.tff_typing.proofs.StatementsGive.{statement_given, problem_given}
@@ -30,3 +33,11 @@ statements_agree state after s = (statement_given state s after, statement_holds
 
 pub problems_agree : (statements : List RawStatement) (p : Problem) → MakeProblem statements p ↔ (problem_in statements ≡ Ok p)
 problems_agree statements p = (problem_given statements p, problem_holds statements p)
+
+-- what the statements make by the rules is a typed problem
+pub made_problem_is_typed : (statements : List RawStatement) (p : Problem) → AreWithinLimits statements → MakeProblem statements p → IsTypedProblem p
+made_problem_is_typed statements p limits made = problem_is_typed statements p limits (problem_given statements p made)
+
+-- and there is one at most
+pub one_problem_made : (statements : List RawStatement) (p q : Problem) → MakeProblem statements p → MakeProblem statements q → p ≡ q
+one_problem_made statements p q m n = typed_same p q (sym (problem_given statements p m) ∙ problem_given statements q n)

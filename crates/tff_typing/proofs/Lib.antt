@@ -29,3 +29,4 @@ pub mod RulesHold
 pub mod StatementsGive
 pub mod StatementsHold
 pub mod Agreement
+pub mod Decided

@@ -6,5 +6,6 @@ pub mod Places
 pub mod Typing
 pub mod Statements
 pub mod Rules
+pub mod Refused
 pub mod Indexed
 pub mod View
