@@ -16,28 +16,38 @@ use Rattle.tff_typing.proofs.RulesHold.{type_holds, expression_holds, form_holds
 use Rattle.tff_typing.proofs.StatementsGive.{statement_given, problem_given}
 use Rattle.tff_typing.proofs.StatementsHold.{statement_holds, problem_holds}
 
-pub types_agree : (table : Table) (s : Scope) (t : RawType) (u : Ty) → DenotesType table s t u ↔ (type_in table s t ≡ Ok u)
+pub types_agree : (table : Table) (s : Scope) (t : RawType) (u : Ty)
+    → DenotesType table s t u ↔ (type_in table s t ≡ Ok u)
 types_agree table s t u = (type_given table s t u, type_holds table s t u)
 
 pub expressions_agree : (table : Table) (s : Scope) (place : Place) (u : RawTerm) (x : Expression) (after : Table)
-    → DenotesExpression table s place u x after ↔ (expression_in table s place u ≡ Ok (record { tree = x; table = after }))
-expressions_agree table s place u x after =
-    (expression_given table s place u x after, λ h. expression_holds table s place u (record { tree = x; table = after }) h)
+    → DenotesExpression table s place u x after ↔
+    (expression_in table s place u ≡ Ok (record { tree = x; table = after }))
+expressions_agree table s place u x after = (
+  expression_given table s place u x after,
+  λ h. expression_holds table s place u
+      (record { tree = x; table = after }) h,
+)
 
 pub forms_agree : (table : Table) (s : Scope) (front : Bool) (f : RawForm) (g : Form) (after : Table)
     → DenotesForm table s front f g after ↔ (form_in table s front f ≡ Ok (record { tree = g; table = after }))
-forms_agree table s front f g after = (form_given table s front f g after, λ h. form_holds table s front f (record { tree = g; table = after }) h)
+forms_agree table s front f g after =
+    (form_given table s front f g after, λ h. form_holds table s front f (record { tree = g; table = after }) h)
 
-pub statements_agree : (state after : State) (s : RawStatement) → MakesState state s after ↔ (statement_in state s ≡ Ok after)
+pub statements_agree : (state after : State) (s : RawStatement)
+    → MakesState state s after ↔ (statement_in state s ≡ Ok after)
 statements_agree state after s = (statement_given state s after, statement_holds state s after)
 
-pub problems_agree : (statements : List RawStatement) (p : Problem) → MakeProblem statements p ↔ (problem_in statements ≡ Ok p)
+pub problems_agree : (statements : List RawStatement) (p : Problem)
+    → MakeProblem statements p ↔ (problem_in statements ≡ Ok p)
 problems_agree statements p = (problem_given statements p, problem_holds statements p)
 
 -- what the statements make by the rules is a typed problem
-pub made_problem_is_typed : (statements : List RawStatement) (p : Problem) → AreWithinLimits statements → MakeProblem statements p → IsTypedProblem p
+pub made_problem_is_typed : (statements : List RawStatement) (p : Problem) → AreWithinLimits statements
+    → MakeProblem statements p → IsTypedProblem p
 made_problem_is_typed statements p limits made = problem_is_typed statements p limits (problem_given statements p made)
 
 -- and there is one at most
-pub one_problem_made : (statements : List RawStatement) (p q : Problem) → MakeProblem statements p → MakeProblem statements q → p ≡ q
+pub one_problem_made : (statements : List RawStatement) (p q : Problem) → MakeProblem statements p
+    → MakeProblem statements q → p ≡ q
 one_problem_made statements p q m n = typed_same p q (sym (problem_given statements p m) ∙ problem_given statements q n)

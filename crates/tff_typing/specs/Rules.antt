@@ -130,7 +130,7 @@ pub data DeclaresSymbol (table : Table) (x : Name) (top : RawTop) : Symbol → T
   function : {s : Scope} {ts : Tys} {r : Ty} → AreTypeVariables [] top.binders s → DenoteTypes table s top.arguments ts
       → DenotesType table s top.result r → DeclaresSymbol table x top (function_of x s ts r)
 
--- What is made of one statement more. A declared name is new, and there is room for it; there is at most one conjecture;
+-- What is made of one statement more. A declared name is new and there is room for it; there is at most one conjecture;
 -- an include makes nothing, since its statements stand in its place.
 pub data MakesState (state : State) : RawStatement → State → Type 0 where
   declaration : {x subject : Name} {top : RawTop} {d : Symbol}
