@@ -1,6 +1,6 @@
 -- Each statement has a typing by the rules or one first fault, and a refusal stands at the first statement without a
 -- typing.
-use Rattle.std.proofs.Common.{◌≡◌, ℕ, zero, suc, ◌+◌, Option, Some, Result, Ok, Err, List, [], ◌∷◌, slice_get, take, ◌⊎◌, inl, inr, refl, arith, sym, ap, ◌∙◌}
+use Rattle.std.proofs.Common.{◌≡◌, ℕ, suc, ◌+◌, Some, Result, Ok, Err, List, [], ◌∷◌, slice_get, take, ◌⊎◌, inl, inr, refl, arith, sym, ap, ◌∙◌}
 use Rattle.zm_logic.specs.Tree.{Problem}
 use Rattle.tptp_reader.specs.Raw.{RawStatement}
 use Rattle.tff_typing.specs.Table.{symbols_of}

@@ -1,16 +1,16 @@
 -- Where there is a derivation by the rules of types, terms and formulas, the functions give its tree and its table.
-use Rattle.std.proofs.Common.{◌≡◌, ℕ, zero, suc, ◌<◌, ◌==◌, Bool, true, false, ◌&&◌, Option, Some, None, Ok, ◌∷◌, length, nat_lt, refl, ap, sym, ◌∙◌, eq-eqb, lt-ltb}
+use Rattle.std.proofs.Common.{◌≡◌, ℕ, zero, suc, ◌<◌, ◌==◌, Bool, true, false, ◌&&◌, Option, Some, None, Ok, ◌∷◌, length, nat_lt, refl, ap, ◌∙◌, eq-eqb, lt-ltb}
 use Rattle.zm_logic.specs.Tree.{Ty, Tys, Term, Terms, Form, Sense, Binder}
 use Rattle.zm_logic.specs.Same.{same_type}
-use Rattle.zm_logic.specs.Typing.{individual, argument_types}
+use Rattle.zm_logic.specs.Typing.{argument_types}
 use Rattle.zm_logic.proofs.Sames.{same_type-self}
 use Rattle.tptp_reader.specs.Raw.{Name, RawType, RawTypes, RawTerm, RawTerms, RawForm, Quantifier}
 use Rattle.tff_typing.specs.Written.{as_types, number_of_types, number_of_terms}
 use Rattle.tff_typing.specs.Scope.{Scope, Bound, look_up}
 use Rattle.tff_typing.specs.Table.{Table, Numbered, Place, arity, declared, used, undeclared, with_entry, most_symbols}
 use Rattle.tff_typing.specs.Fault.{Outcome, ◌>>=◌}
-use Rattle.tff_typing.specs.Places.{type_variable, constructor_at, type_in, types_in, Use, if_symbol, new_symbol, used_or_new, declared_or_used, symbol_for, Expression, term_variable, wanted, as_formula, first, rest}
-use Rattle.tff_typing.specs.Typing.{Typed, gives, expression_in, terms_in, equality_in, of_written, binder_in, is_universal, form_in}
+use Rattle.tff_typing.specs.Places.{type_variable, constructor_at, type_in, types_in, if_symbol, used_or_new, declared_or_used, symbol_for, Expression, term_variable, wanted, first, rest}
+use Rattle.tff_typing.specs.Typing.{Typed, gives, expression_in, terms_in, of_written, binder_in, is_universal, form_in}
 use Rattle.tff_typing.specs.Rules.{DenotesType, DenoteTypes, IsNoConstructor, DenotesSymbol, DenotesExpression, DenoteTerms, DenotesWritten, DenotesForm}
 use Rattle.tff_typing.proofs.Tables.{use_of}
 

@@ -1,5 +1,5 @@
 -- What the functions give for types, terms and formulas has a derivation by the rules.
-use Rattle.std.proofs.Common.{◌≡◌, ℕ, zero, suc, ◌+◌, ◌<◌, ◌==◌, Bool, true, false, ◌&&◌, if◌then◌else◌, Option, Some, None, Ok, Err, ◌∷◌, length, nat_lt, refl, arith, ap, sym, subst, ◌∙◌, eqb-true, ltb-true}
+use Rattle.std.proofs.Common.{◌≡◌, ℕ, zero, suc, ◌+◌, ◌==◌, Bool, true, false, ◌&&◌, Option, Some, None, Ok, ◌∷◌, length, nat_lt, refl, arith, ap, subst, ◌∙◌, eqb-true, ltb-true}
 use Rattle.zm_logic.specs.Tree.{Ty, Tys, Term, Terms, Form, Sense, Binder}
 use Rattle.zm_logic.specs.Opening.{openings}
 use Rattle.zm_logic.specs.Same.{same_type}
@@ -8,16 +8,15 @@ use Rattle.zm_logic.proofs.Sames.{same_type-true}
 use Rattle.tptp_reader.specs.Raw.{Name, RawType, RawTypes, RawTerm, RawTerms, RawVariable, RawForm, Quantifier}
 use Rattle.tff_typing.specs.Written.{as_types, number_of_types, number_of_terms, connective_of}
 use Rattle.tff_typing.specs.Scope.{Scope, Variable, Bound, look_up}
-use Rattle.tff_typing.specs.Table.{Table, Entry, Numbered, Place, arity, declared, used, used_as, undeclared, with_entry, most_symbols}
-use Rattle.tff_typing.specs.Fault.{found_type, Fault, Outcome, ◌>>=◌}
+use Rattle.tff_typing.specs.Table.{Table, Numbered, Place, arity, declared, used, used_as, undeclared, with_entry, most_symbols}
+use Rattle.tff_typing.specs.Fault.{found_type, Fault, ◌>>=◌}
 use Rattle.tff_typing.specs.Places.{if_type, type_variable, if_constructor, constructor_at, type_in, types_in, Use, if_symbol, new_symbol, used_or_new, declared_or_used, symbol_for, Expression, applied, if_term, term_variable, wanted, as_formula, first, rest}
-use Rattle.tff_typing.specs.Typing.{Typed, gives, unchanged, expression_in, terms_in, left_side, equality_in, type_quantifier, of_written, binder_in, bind, is_universal, form_in}
+use Rattle.tff_typing.specs.Typing.{Typed, gives, expression_in, terms_in, left_side, equality_in, type_quantifier, of_written, binder_in, bind, is_universal, form_in}
 use Rattle.tff_typing.specs.Rules.{DenotesType, DenoteTypes, IsNoConstructor, DenotesSymbol, DenotesExpression, DenoteTerms, DenotesWritten, DenotesForm}
 use Rattle.tff_typing.proofs.Outcomes.{both_ok, ok_same, no_ok, test_held}
 use Rattle.tff_typing.proofs.Instances.{how_many_instance}
 use Rattle.tff_typing.proofs.Lookups.{first_found}
 use Rattle.tff_typing.proofs.Tables.{use_of, used_number, how_many_individuals}
-use Rattle.tff_typing.proofs.RulesGive.{terms_after}
 
 -- a constructor at as many types as it takes
 record IsFound (o : Option Numbered) (n m : ℕ) : Type 0 where

@@ -8,8 +8,8 @@ use Rattle.tff_typing.specs.Table.{Table, Numbered, symbols_of, known, with_entr
 use Rattle.tff_typing.specs.Fault.{Fault, Outcome, ◌>>=◌}
 use Rattle.tff_typing.specs.Places.{type_in}
 use Rattle.tff_typing.specs.Typing.{Typed, form_in}
-use Rattle.tff_typing.specs.Statements.{of_kind, type_variables, is_kind, arguments_in, function_of, predicate_of, with_result, declared_symbol, if_new, declare, State, start, if_first, formula_of, statement_in, Refusal, refused_at, then_typed, statements_in, problem_of, problem_if, problem_in}
-use Rattle.tff_typing.specs.Rules.{DenotesType, DenoteTypes, DenotesForm, AreTypeVariables, AreKinds, DeclaresSymbol, MakesState, MakeStates, MakeProblem}
+use Rattle.tff_typing.specs.Statements.{of_kind, type_variables, is_kind, arguments_in, function_of, with_result, declared_symbol, if_new, declare, State, start, if_first, formula_of, statement_in, Refusal, refused_at, then_typed, statements_in, problem_of, problem_if, problem_in}
+use Rattle.tff_typing.specs.Rules.{DenotesType, DenoteTypes, AreTypeVariables, AreKinds, DeclaresSymbol, MakesState, MakeStates, MakeProblem}
 use Rattle.tff_typing.proofs.RulesGive.{then_ok, type_given, form_given}
 
 variables_given : (s : Scope) (vs : List RawVariable) (after : Scope) → AreTypeVariables s vs after

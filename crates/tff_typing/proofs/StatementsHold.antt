@@ -1,5 +1,5 @@
 -- What the functions give for declarations and statements has a derivation by the rules.
-use Rattle.std.proofs.Common.{◌≡◌, ℕ, suc, ◌+◌, ◌<◌, Bool, true, false, if◌then◌else◌, Option, Some, None, Result, Ok, Err, List, [], ◌∷◌, ◌++◌, length, nat_lt, refl, arith, ap, sym, subst, ◌∙◌, ltb-true}
+use Rattle.std.proofs.Common.{◌≡◌, ℕ, suc, ◌+◌, true, false, if◌then◌else◌, Option, Some, None, Result, Ok, Err, List, [], ◌∷◌, length, nat_lt, refl, arith, ap, sym, subst, ◌∙◌, ltb-true}
 use Rattle.zm_logic.specs.Tree.{Ty, Tys, Form, Symbol, Sense, Binder, Role, Problem}
 use Rattle.tptp_reader.specs.declared.tree.RawRole.{RawRole}
 use Rattle.tptp_reader.specs.Raw.{Name, RawType, RawTypes, RawVariable, RawForm, RawTop, RawStatement}
@@ -8,8 +8,8 @@ use Rattle.tff_typing.specs.Scope.{Scope}
 use Rattle.tff_typing.specs.Table.{Table, Numbered, symbols_of, known, with_entry, most_symbols}
 use Rattle.tff_typing.specs.Fault.{Fault, Outcome, ◌>>=◌}
 use Rattle.tff_typing.specs.Places.{type_in}
-use Rattle.tff_typing.specs.Typing.{Typed, form_in}
-use Rattle.tff_typing.specs.Statements.{of_kind, type_variables, is_kind, arguments_in, constructor_of, function_of, predicate_of, with_result, declared_symbol, if_new, declare, State, start, if_first, formula_of, statement_in, Refusal, refused_at, then_typed, statements_in, problem_of, problem_if, problem_in}
+use Rattle.tff_typing.specs.Typing.{form_in}
+use Rattle.tff_typing.specs.Statements.{of_kind, type_variables, is_kind, arguments_in, constructor_of, function_of, predicate_of, with_result, declared_symbol, if_new, State, start, if_first, formula_of, statement_in, Refusal, refused_at, then_typed, statements_in, problem_of, problem_if, problem_in}
 use Rattle.tff_typing.specs.Rules.{DenotesType, DenoteTypes, AreTypeVariables, AreKinds, DeclaresSymbol, MakesState, MakeStates, MakeProblem}
 use Rattle.tff_typing.proofs.Outcomes.{both_ok, ok_same, no_ok, test_held}
 use Rattle.tff_typing.proofs.StatementsTyped.{no_refusal, typed_same, with_premise, with_conjecture, with_table}

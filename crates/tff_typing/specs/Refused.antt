@@ -1,5 +1,5 @@
 -- Where statements that make no problem by the rules are refused.
-use Rattle.std.specs.Prelude.{◌≡◌, Option, Some, Err, List, take, slice_get}
+use Rattle.std.specs.Prelude.{◌≡◌, Some, Err, List, take, slice_get}
 use Rattle.tptp_reader.specs.Raw.{RawStatement}
 use Rattle.tff_typing.specs.Table.{symbols_of}
 use Rattle.tff_typing.specs.Statements.{State, start, statement_in, Refusal}
