@@ -13,9 +13,9 @@ use Rattle.tptp_reader.specs.View.{raw_term_tree, raw_terms_tree}
 use Rattle.tff_typing.specs.Scope.{Scope}
 use Rattle.tff_typing.specs.Table.{Table, Place}
 use Rattle.tff_typing.specs.Fault.{Fault, Outcome, ◌>>=◌}
-use Rattle.tff_typing.specs.Places.{Expression, wanted}
+use Rattle.tff_typing.specs.Places.{Expression, wanted, rest}
 use Rattle.tff_typing.specs.Typing.{Typed, gives, unchanged}
-use Rattle.tff_typing.specs.Indexed.{rest, expression_at, terms_at, term_at}
+use Rattle.tff_typing.specs.Indexed.{expression_at, terms_at, term_at}
 use Rattle.tff_typing.specs.declared.symbols.Symbols.{Symbols}
 use Rattle.tff_typing.specs.declared.fault.Stop.{Stop}
 use Rattle.tff_typing.specs.declared.fault.Stop.TheVariants as stops

@@ -24,3 +24,9 @@ pub mod Sides
 pub mod Declared
 pub mod States
 pub mod Entries
+pub mod RulesGive
+pub mod RulesHold
+pub mod StatementsGive
+pub mod StatementsHold
+pub mod Agreement
+pub mod Decided

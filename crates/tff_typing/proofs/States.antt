@@ -21,12 +21,14 @@ use Rattle.tff_typing.specs.Table.{symbols_of}
 use Rattle.tff_typing.specs.Fault.{Fault, Outcome}
 use Rattle.tff_typing.specs.Typing.{Typed, form_in}
 use Rattle.tff_typing.specs.Statements.{State, start, formula_of, statement_in, Refusal, refused_at, then_typed, statements_in, symbols_if, problem_of, AreWithinLimits}
+use Rattle.tff_typing.specs.Rules.{MakeProblem}
 use Rattle.tff_typing.specs.Indexed.{form_at, formula_at, statement_at}
 use Rattle.tff_typing.specs.declared.state.State as code
 use Rattle.tff_typing.specs.declared.fault.Fault as faults
 use Rattle.tff_typing.specs.View.{state_tree, fault_tree, raw_statements, Refuses}
 use Rattle.tff_typing.proofs.FormsTyped.{form_sound, no_parameter}
 use Rattle.tff_typing.proofs.StatementsTyped.{IsState, start_is, statements_are, no_refusal, typed_same}
+use Rattle.tff_typing.proofs.StatementsHold.{statements_hold}
 use Rattle.tff_typing.proofs.Indexed.{shown_form, form_shown, indexed_form_free}
 use Rattle.tff_typing.proofs.Problems.{problem_is_typed}
 
@@ -122,6 +124,15 @@ typed_problem xs state p l h e = problem_is_typed (raw_statements xs) (problem_t
   where
     problem : tree.Problem → Result tree.Problem Refusal
     problem x = Ok x
+
+-- what the statements make is their problem by the rules
+pub made_problem : (xs : List GatheredStatement) (state : code.State) (p : Problem) → statements_in 0 start (raw_statements xs) ≡ Ok (state_tree state)
+    → problem_tree p ≡ problem_of (state_tree state) → MakeProblem (raw_statements xs) (problem_tree p)
+made_problem xs state p h e = record {
+  state = state_tree state;
+  made = statements_hold 0 start (raw_statements xs) (state_tree state) h;
+  problem = sym e;
+}
 
 pub all_taken : {A : Type 0} (xs : List A) (n : ℕ) → length xs ≤ n → xs ≡ take n xs
 all_taken [] zero l = refl

@@ -167,7 +167,7 @@ pub record IsUse (table : Table) (n : ℕ) (d : Use) : Type 0 where
   pub number : n ≡ arity d.found.symbol
   pub sense : Sense.constructor ≡ d.found.symbol.sense → ⊥
 
-abbrev use_of : Table → Numbered → Use
+abbrev pub use_of : Table → Numbered → Use
 use_of table d = record { found = d; table = table }
 
 if_symbol_is : (table : Table) (d : Numbered) (x : Sense) (u : Use) → if_symbol table d x ≡ Ok u → (use_of table d ≡ u) × (Sense.constructor ≡ x → ⊥)
@@ -180,6 +180,18 @@ if_symbol_is table d (Sense.function r) u h = (ok_same (use_of table d) u h, no_
   where
     no_function : Sense.constructor ≡ Sense.function r → ⊥
     no_function e = cc
+
+-- a symbol that was used with n arguments takes so many
+pub used_number : (x : Name) (n : ℕ) (e : Entry) (d : Symbol) → e.symbol ≡ d → used_as x n e ≡ true → n ≡ arity d
+used_number x n e d s p =
+    let a = second_true (not e.is_declared) (bytes_eq e.symbol.name x && (arity e.symbol == n)) p in
+    let b = second_true (bytes_eq e.symbol.name x) (arity e.symbol == n) a in
+    sym (eqb-true (arity e.symbol) n b) ∙ ap arity s
+  where
+    second_true : (a b : Bool) → (a && b) ≡ true → b ≡ true
+    second_true true b p = p
+    second_true false true p = refl
+    second_true false false p = p
 
 made_sense : (place : Place) → Sense.constructor ≡ sense_at place → ⊥
 made_sense Place.formula e = cc
@@ -203,18 +215,7 @@ module _ (table : Table) (ok : IsTable table) where
       let f = first_found 1 (used_as x n) table d i in
       let t = if_symbol_is table d d.symbol.sense u e in
       subst (λ (y : Use). IsUse table n y) t.0
-      (record { good = ok; grows = record { at = λ m s a. a }; at = found_at (used_as x n) table d i; number = number f.entry d.symbol f.same f.passes; sense = t.1 })
-    where
-      both_true : (a b : Bool) → (a && b) ≡ true → b ≡ true
-      both_true true b p = p
-      both_true false true p = refl
-      both_true false false p = p
-
-      number : (e : Entry) (y : Symbol) → e.symbol ≡ y → used_as x n e ≡ true → n ≡ arity y
-      number e y s p =
-          let a = both_true (not e.is_declared) (bytes_eq e.symbol.name x && (arity e.symbol == n)) p in
-          let b = both_true (bytes_eq e.symbol.name x) (arity e.symbol == n) a in
-          sym (eqb-true (arity e.symbol) n b) ∙ ap arity s
+      (record { good = ok; grows = record { at = λ m s a. a }; at = found_at (used_as x n) table d i; number = used_number x n f.entry d.symbol f.same f.passes; sense = t.1 })
 
   declared_is : (place : Place) (x : Name) (n : ℕ) (u : Use) → (o : Option Numbered) → declared table x ≡ o
       → declared_or_used table place x n o ≡ Ok u → IsUse table n u

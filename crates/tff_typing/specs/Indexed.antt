@@ -70,12 +70,6 @@ abbrev pub indexed_variable : ℕ → Option Bound → Outcome Expression
 indexed_variable k None = Err Fault.unbound
 indexed_variable k (Some b) = if_indexed_term k b.number b.binder
 
--- the parts after the first n
-abbrev pub rest : ℕ → RawTerms → RawTerms
-rest zero us = us
-rest (suc n) RawTerms.none = RawTerms.none
-rest (suc n) (RawTerms.more u us) = rest n us
-
 -- a symbol without its name
 pub record Taken : Type 0 where
   pub number : ℕ
@@ -84,7 +78,8 @@ pub record Taken : Type 0 where
   pub sense : Sense
 
 abbrev pub taken_of : Numbered → Taken
-taken_of d = record { number = d.number; types = d.symbol.types; arguments = d.symbol.arguments; sense = d.symbol.sense }
+taken_of d =
+    record { number = d.number; types = d.symbol.types; arguments = d.symbol.arguments; sense = d.symbol.sense }
 
 abbrev pub taken_if : Numbered → Sense → Outcome Taken
 taken_if d Sense.constructor = Err Fault.not_a_term
@@ -97,7 +92,8 @@ taken_with n d = if n == arity d.symbol then taken_if d d.symbol.sense else Err 
 abbrev pub new_taken : Table → Place → Name → ℕ → Outcome (Typed Taken)
 new_taken table place x n =
     if nat_lt (length table) most_symbols
-    then gives (with_entry table false (undeclared place x n)) (taken_of (record { number = suc (length table); symbol = undeclared place x n }))
+    then gives (with_entry table false (undeclared place x n))
+    (taken_of (record { number = suc (length table); symbol = undeclared place x n }))
     else Err Fault.too_many_symbols
 
 abbrev pub used_taken : Table → Place → Name → ℕ → Option Numbered → Outcome (Typed Taken)
@@ -120,8 +116,13 @@ pub record Head : Type 0 where
   pub sense : Sense
 
 abbrev pub head_of : Taken → Tys → Head
-head_of d ts =
-    record { number = d.number; skipped = d.types; types = ts; wanted_types = all_filled ts d.arguments; sense = d.sense }
+head_of d ts = record {
+  number = d.number;
+  skipped = d.types;
+  types = ts;
+  wanted_types = all_filled ts d.arguments;
+  sense = d.sense;
+}
 
 abbrev pub head_at : Table → Scope → Place → Name → RawTerms → Outcome (Typed Head)
 head_at table s place f us =
@@ -227,11 +228,16 @@ function_at table x s ts t = type_in table s t >>= λ r. Ok (function_of x s ts 
 abbrev pub formula_at : State → Name → Option Role → RawForm → Outcome State
 formula_at state x (Some role) f =
     form_at state.table [] true f >>= λ g.
-    Ok (record state { table = g.table; premises = state.premises ++ record { name = x; role = role; form = g.tree } ∷ [] })
+    Ok (record state {
+      table = g.table;
+      premises = state.premises ++ record { name = x; role = role; form = g.tree } ∷ [];
+    })
 formula_at state x None f =
-    if_first state.conjecture (form_at state.table [] true f >>= λ g. Ok (record state { table = g.table; conjecture = Some g.tree }))
+    if_first state.conjecture
+    (form_at state.table [] true f >>= λ g. Ok (record state { table = g.table; conjecture = Some g.tree }))
 
 abbrev pub statement_at : State → RawStatement → Outcome State
 statement_at state (RawStatement.formula x role f) = formula_at state x (premise_role role) f
-statement_at state (RawStatement.typing x subject top) = declare state.table subject top >>= λ table. Ok (record state { table = table })
+statement_at state (RawStatement.typing x subject top) =
+    declare state.table subject top >>= λ table. Ok (record state { table = table })
 statement_at state (RawStatement.inclusion file names) = Ok state

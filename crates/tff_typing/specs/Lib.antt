@@ -5,5 +5,7 @@ pub mod Fault
 pub mod Places
 pub mod Typing
 pub mod Statements
+pub mod Rules
+pub mod Refused
 pub mod Indexed
 pub mod View

@@ -59,7 +59,10 @@ if_symbol table d (Sense.function r) = Ok (record { found = d; table = table })
 abbrev pub new_symbol : Table → Bool → Symbol → Outcome Use
 new_symbol table is_declared d =
     if nat_lt (length table) most_symbols
-    then Ok (record { found = record { number = suc (length table); symbol = d }; table = with_entry table is_declared d })
+    then Ok (record {
+      found = record { number = suc (length table); symbol = d };
+      table = with_entry table is_declared d;
+    })
     else Err Fault.too_many_symbols
 
 abbrev pub used_or_new : Table → Place → Name → ℕ → Option Numbered → Outcome Use
@@ -67,7 +70,8 @@ used_or_new table place x n (Some d) = if_symbol table d d.symbol.sense
 used_or_new table place x n None = new_symbol table false (undeclared place x n)
 
 abbrev pub declared_or_used : Table → Place → Name → ℕ → Option Numbered → Outcome Use
-declared_or_used table place x n (Some d) = if n == arity d.symbol then if_symbol table d d.symbol.sense else Err Fault.arity
+declared_or_used table place x n (Some d) =
+    if n == arity d.symbol then if_symbol table d d.symbol.sense else Err Fault.arity
 declared_or_used table place x n None = used_or_new table place x n (used table x n)
 
 -- the symbol of a name with n arguments in a term's or a formula's place
@@ -109,3 +113,9 @@ abbrev pub first : ℕ → RawTerms → RawTerms
 first zero us = RawTerms.none
 first (suc n) RawTerms.none = RawTerms.none
 first (suc n) (RawTerms.more u us) = RawTerms.more u (first n us)
+
+-- the parts after the first n
+abbrev pub rest : ℕ → RawTerms → RawTerms
+rest zero us = us
+rest (suc n) RawTerms.none = RawTerms.none
+rest (suc n) (RawTerms.more u us) = rest n us

@@ -1,4 +1,5 @@
--- Statements in order: declarations, premises, and at most one conjecture.
+-- Statements in order, declarations, premises, and at most one conjecture: what they make, or the first fault in the
+-- order of the text. A law says that this agrees with the rules of `Rules`.
 use Rattle.std.specs.Prelude.{ℕ, suc, ◌-◌, Bool, true, false, if◌then◌else◌, Option, Some, None, Result, Ok, Err, List, [], ◌∷◌, ◌++◌, length, nat_lt}
 use Rattle.zm_logic.specs.Tree.{Ty, Tys, Form, Symbol, Sense, Binder, Role, Premise, Problem}
 use Rattle.tptp_reader.specs.Raw.{Name, RawType, RawTypes, RawVariable, RawForm, RawTop, RawStatement}
@@ -57,18 +58,26 @@ constructor_of x n [] (Tys.more t ts) = Err Fault.not_a_type
 constructor_of x n (v ∷ vs) ts = Err Fault.not_a_type
 
 abbrev pub function_of : Name → Scope → Tys → Ty → Symbol
-function_of x s ts r = record { name = x; types = length s; arguments = all_indexed (length s) ts; sense = Sense.function (indexed (length s) r) }
+function_of x s ts r = record {
+  name = x;
+  types = length s;
+  arguments = all_indexed (length s) ts;
+  sense = Sense.function (indexed (length s) r);
+}
 
 abbrev pub predicate_of : Name → Scope → Tys → Symbol
-predicate_of x s ts = record { name = x; types = length s; arguments = all_indexed (length s) ts; sense = Sense.predicate }
+predicate_of x s ts =
+    record { name = x; types = length s; arguments = all_indexed (length s) ts; sense = Sense.predicate }
 
 -- the symbol of n arguments with this result
 abbrev pub with_result : Table → Name → ℕ → Scope → Tys → RawType → Outcome Symbol
 with_result table x n s ts RawType.kind = constructor_of x n s ts
 with_result table x n s ts RawType.truth = Ok (predicate_of x s ts)
 with_result table x n s ts RawType.individual = type_in table s RawType.individual >>= λ r. Ok (function_of x s ts r)
-with_result table x n s ts (RawType.variable y) = type_in table s (RawType.variable y) >>= λ r. Ok (function_of x s ts r)
-with_result table x n s ts (RawType.named c us) = type_in table s (RawType.named c us) >>= λ r. Ok (function_of x s ts r)
+with_result table x n s ts (RawType.variable y) =
+    type_in table s (RawType.variable y) >>= λ r. Ok (function_of x s ts r)
+with_result table x n s ts (RawType.named c us) =
+    type_in table s (RawType.named c us) >>= λ r. Ok (function_of x s ts r)
 
 abbrev pub declared_symbol : Table → Name → RawTop → Outcome Symbol
 declared_symbol table x top =
@@ -104,14 +113,19 @@ if_first (Some f) r = Err Fault.second_conjecture
 abbrev pub formula_of : State → Name → Option Role → RawForm → Outcome State
 formula_of state x (Some role) f =
     form_in state.table [] true f >>= λ g.
-    Ok (record state { table = g.table; premises = state.premises ++ record { name = x; role = role; form = g.tree } ∷ [] })
+    Ok (record state {
+      table = g.table;
+      premises = state.premises ++ record { name = x; role = role; form = g.tree } ∷ [];
+    })
 formula_of state x None f =
-    if_first state.conjecture (form_in state.table [] true f >>= λ g. Ok (record state { table = g.table; conjecture = Some g.tree }))
+    if_first state.conjecture
+    (form_in state.table [] true f >>= λ g. Ok (record state { table = g.table; conjecture = Some g.tree }))
 
 -- what one more statement makes, or its first fault; an include makes nothing, since its statements stand in its place
 abbrev pub statement_in : State → RawStatement → Outcome State
 statement_in state (RawStatement.formula x role f) = formula_of state x (premise_role role) f
-statement_in state (RawStatement.typing x subject top) = declare state.table subject top >>= λ table. Ok (record state { table = table })
+statement_in state (RawStatement.typing x subject top) =
+    declare state.table subject top >>= λ table. Ok (record state { table = table })
 statement_in state (RawStatement.inclusion file names) = Ok state
 
 -- the number of the first statement without a typing, the symbols of the statements before it, and its first fault
@@ -144,7 +158,11 @@ to_prove None = Form.falsity
 to_prove (Some f) = f
 
 abbrev pub problem_of : State → Problem
-problem_of state = record { symbols = symbols_of state.table; premises = state.premises; conjecture = to_prove state.conjecture }
+problem_of state = record {
+  symbols = symbols_of state.table;
+  premises = state.premises;
+  conjecture = to_prove state.conjecture;
+}
 
 abbrev pub problem_if : Result State Refusal → Result Problem Refusal
 problem_if (Ok state) = Ok (problem_of state)

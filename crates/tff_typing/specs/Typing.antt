@@ -1,4 +1,5 @@
--- Terms and formulas as they are written, typed: the tree, or the first fault in the order of the text.
+-- Terms and formulas as they are written, typed: the tree, or the first fault in the order of the text. A law says that
+-- this agrees with the rules of `Rules`.
 -- A variable in scope is its parameter, and a quantifier binds the parameter of its variable.
 use Rattle.std.specs.Prelude.{ℕ, zero, suc, Bool, true, false, ◌&&◌, Option, Some, None, Ok, Err, ◌∷◌, length}
 use Rattle.zm_logic.specs.Tree.{Ty, Tys, Terms, Form, Binder}

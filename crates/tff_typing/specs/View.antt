@@ -31,6 +31,7 @@ use Rattle.tff_typing.specs.declared.forms.Quantifier.{Quantifier}
 use Rattle.tff_typing.specs.declared.forms.Quantifier.TheVariants as quantifiers
 use Rattle.tptp_reader.specs.Raw as raw
 use Rattle.tff_typing.specs.Statements as statements
+use Rattle.tff_typing.specs.Rules.{MakeProblem}
 use Rattle.tff_typing.specs.declared.state.State.{State}
 use Rattle.tff_typing.specs.declared.problem.Halt.{Halt}
 use Rattle.tff_typing.specs.declared.problem.Halt.TheVariants as halts
@@ -71,7 +72,12 @@ arguments_taken None d = types_tree d.arguments
 arguments_taken (Some n) d = table.individuals_of n
 
 abbrev pub symbol_of : List ℕ → Option ℕ → Declaration → tree.Symbol
-symbol_of x parts d = record { name = x; types = types_taken parts d; arguments = arguments_taken parts d; sense = sense_tree d.sense }
+symbol_of x parts d = record {
+  name = x;
+  types = types_taken parts d;
+  arguments = arguments_taken parts d;
+  sense = sense_tree d.sense;
+}
 
 abbrev pub was_declared : Option ℕ → Bool
 was_declared None = true
@@ -100,7 +106,8 @@ found_by k t = found_as k.name.now k.parts t
 -- a symbol's entry put at the end of a table that has room, and its place
 abbrev pub IsAdded : Result ℕ Stop → table.Table → table.Entry → table.Table → Type 0
 IsAdded (Ok i) before e after = (i ≡ length before) × (length before < table.most_symbols) × (after ≡ before ++ e ∷ [])
-IsAdded (Err (stops.Refused f)) before e after = (fault_tree f ≡ fault.Fault.too_many_symbols) × (table.most_symbols ≤ length before) × (after ≡ before)
+IsAdded (Err (stops.Refused f)) before e after =
+    (fault_tree f ≡ fault.Fault.too_many_symbols) × (table.most_symbols ≤ length before) × (after ≡ before)
 IsAdded (Err stops.Memory) before e after = after ≡ before
 
 abbrev pub binder_tree : Binder → tree.Binder
@@ -134,15 +141,21 @@ place_tree the_places.Formula = table.Place.formula
 place_tree the_places.Term = table.Place.term
 
 abbrev pub use_tree : Use → at.Taken
-use_tree u = record { number = u.number.0; types = u.types; arguments = types_tree u.arguments; sense = sense_tree u.sense }
+use_tree u =
+    record { number = u.number.0; types = u.types; arguments = types_tree u.arguments; sense = sense_tree u.sense }
 
 abbrev pub expression_tree : Expression → places.Expression
 expression_tree (expressions.Term t u) = places.Expression.term (type_tree t) (term_tree u)
 expression_tree (expressions.Atom p ts us) = places.Expression.atom p.0 (types_tree ts) (terms_tree us)
 
 abbrev pub head_tree : Head → at.Head
-head_tree h =
-    record { number = h.number.0; skipped = h.skipped; types = types_tree h.types; wanted_types = types_tree h.wanted; sense = sense_tree h.sense }
+head_tree h = record {
+  number = h.number.0;
+  skipped = h.skipped;
+  types = types_tree h.types;
+  wanted_types = types_tree h.wanted;
+  sense = sense_tree h.sense;
+}
 
 abbrev pub side_tree : Side → at.Side
 side_tree s = record { type = type_tree s.ty; term = term_tree s.term }
@@ -179,8 +192,11 @@ abbrev pub declared_as : List ℕ → Declaration → tree.Symbol
 declared_as x d = symbol_of x None d
 
 abbrev pub state_tree : State → statements.State
-state_tree s =
-    record { table = table_tree s.symbols; premises = map premise_tree s.premises; conjecture = option_map form_tree s.conjecture }
+state_tree s = record {
+  table = table_tree s.symbols;
+  premises = map premise_tree s.premises;
+  conjecture = option_map form_tree s.conjecture;
+}
 
 -- The same for what the statements so far make.
 abbrev pub GivesState : {A : Type 0} → Result A Stop → State → fault.Outcome statements.State → Type 0
@@ -215,8 +231,9 @@ pub record Refuses (list : List Placed) (r : TypeRefusal) : Type 0 where
   pub file : r.place.file ≡ placed.file
   pub place : r.place.at ≡ placed.at
 
--- What the program answers: the problem of the statements, or their refusal; of want of memory nothing is said.
+-- What the program answers: the problem that the statements make by the rules, or their refusal; of want of memory
+-- nothing is said.
 abbrev pub Types : List Placed → Result Problem TypeStop → Type 0
-Types list (Ok p) = statements.problem_in (map (λ p. p.statement) list) ≡ Ok (problem_tree p)
+Types list (Ok p) = MakeProblem (map (λ p. p.statement) list) (problem_tree p)
 Types list (Err (type_stops.Refused r)) = Refuses list r
 Types list (Err type_stops.Memory) = Unit {0}

@@ -1,16 +1,55 @@
 //! What is true of typing, apart from the code.
-ghost use Rattle.std.specs.Prelude.{◌≡◌, List, Ok};
+ghost use Rattle.std.specs.Prelude.{◌≡◌, ◌↔◌, ◌⊎◌, List, Ok, Err};
 ghost use Rattle.zm_logic.specs.Tree.{Problem};
 ghost use Rattle.zm_logic.specs.Problem.{IsTypedProblem};
 ghost use Rattle.tptp_reader.specs.Raw.{RawStatement};
-ghost use Rattle.tff_typing.specs.Statements.{problem_in, AreWithinLimits};
+ghost use Rattle.tff_typing.specs.Fault.{Fault};
+ghost use Rattle.tff_typing.specs.Statements.{State, Refusal, statement_in, problem_in, AreWithinLimits};
+ghost use Rattle.tff_typing.specs.Rules.{MakesState, MakeProblem};
+ghost use Rattle.tff_typing.specs.Refused.{IsFirstUntyped};
 
-/// What statements within the reader's limits make is a typed problem: well typed, closed, and no deeper than 1,500.
+/// What statements within the reader's limits make by the rules is a typed problem: well typed, closed, and no deeper
+/// than 1,500.
 pub fn typed_problems()
-    ensures { (statements : List RawStatement) (p : Problem) → AreWithinLimits statements → problem_in statements ≡ Ok p → IsTypedProblem p }
+    ensures { (statements : List RawStatement) (p : Problem)
+        → AreWithinLimits statements → MakeProblem statements p → IsTypedProblem p }
 {}
 
-/// Statements make at most one problem.
+/// Statements make at most one problem by the rules.
 pub fn one_problem()
-    ensures { (statements : List RawStatement) (p q : Problem) → problem_in statements ≡ Ok p → problem_in statements ≡ Ok q → p ≡ q }
+    ensures { (statements : List RawStatement) (p q : Problem)
+        → MakeProblem statements p → MakeProblem statements q → p ≡ q }
+{}
+
+/// Statements make a problem by the rules exactly where the function in the order of the text gives it, and one statement
+/// makes a state of another exactly where that function gives it.
+pub fn rules_agree()
+    ensures problems { (statements : List RawStatement) (p : Problem)
+        → MakeProblem statements p ↔ (problem_in statements ≡ Ok p) }
+    ensures states { (state after : State) (s : RawStatement)
+        → MakesState state s after ↔ (statement_in state s ≡ Ok after) }
+{}
+
+/// Statements make a problem by the rules, or they have a refusal, and never both; and the refusal is one. It stands at the
+/// first statement that has no typing by the rules, with the first fault of that statement.
+pub fn first_fault()
+    ensures either { (statements : List RawStatement)
+        → ((p : Problem) × MakeProblem statements p) ⊎ ((r : Refusal) × (problem_in statements ≡ Err r)) }
+    ensures never_both { (statements : List RawStatement) (p : Problem) (r : Refusal)
+        → MakeProblem statements p → problem_in statements ≡ Err r → ⊥ }
+    ensures one { (statements : List RawStatement) (q r : Refusal)
+        → problem_in statements ≡ Err q → problem_in statements ≡ Err r → q ≡ r }
+    ensures first { (statements : List RawStatement) (r : Refusal)
+        → problem_in statements ≡ Err r → IsFirstUntyped statements r }
+{}
+
+/// The same for one statement and what those before it make: it makes a state by the rules, or it has a first fault, and
+/// never both; and the first fault is one.
+pub fn first_fault_of_a_statement()
+    ensures either { (state : State) (s : RawStatement)
+        → ((after : State) × MakesState state s after) ⊎ ((f : Fault) × (statement_in state s ≡ Err f)) }
+    ensures never_both { (state after : State) (s : RawStatement) (f : Fault)
+        → MakesState state s after → statement_in state s ≡ Err f → ⊥ }
+    ensures one { (state : State) (s : RawStatement) (e f : Fault)
+        → statement_in state s ≡ Err e → statement_in state s ≡ Err f → e ≡ f }
 {}

@@ -57,8 +57,9 @@ fn refusal_at(
     })
 }
 
-/// The problem that the statements make. They are taken in order, and the refusal is that of the first statement that
-/// has no typing, with its first fault in the order of the text.
+/// The problem that the statements make by the rules of typing. They are taken in order, and the refusal is that of the
+/// first statement that has no typing, with its first fault in the order of the text.
+#[tactic(auto, using(crate::proofs::States::made_problem))]
 pub fn type_problem(alloc: Global, statements: &Gathered) -> Result<TypedProblem, TypeStop>
     ensures { Types (map placed_of statements.now) result }
 {

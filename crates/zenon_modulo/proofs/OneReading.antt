@@ -1,9 +1,10 @@
 -- Words are one command at most, or one thing is the first that is wrong with them; and a text spells one problem at most.
-use Rattle.std.proofs.Common.{ℕ, ◌≡◌, ◌≢◌, List, [], ◌∷◌, map, codes, get_or, Option, Some, None, Result, Ok, refl, sym, ap, ap₂, subst, ◌∙◌, arith}
+use Rattle.std.proofs.Common.{ℕ, ◌≡◌, ◌≢◌, List, [], ◌∷◌, map, codes, get_or, Option, Some, None, refl, sym, ap₂, subst, ◌∙◌, arith}
 use Rattle.zm_base.specs.Library.{NamedFile}
 use Rattle.zm_logic.specs.Tree.{Problem}
 use Rattle.tptp_include.specs.Gathering.{Placed, Outcome, GathersAll}
-use Rattle.tff_typing.specs.Statements.{Refusal, problem_in}
+use Rattle.tptp_reader.specs.Raw.{RawStatement}
+use Rattle.tff_typing.specs.Rules.{MakeProblem}
 use Rattle.zenon_modulo.specs.Words.{Word, Operand, Command, Misuse, IsOperand, IsNumber, AllowsSteps, AreOptions, IsCommand, IsMisuse, steps_text}
 use Rattle.zenon_modulo.specs.Input.{Name, name_of, Makes, IsText, Spells}
 
@@ -44,18 +45,16 @@ one_misuse words m n (IsMisuse.bad_options q a) (IsMisuse.unknown_mode b) = absu
 one_misuse words m n (IsMisuse.bad_options {operand = operand} q a) (IsMisuse.bad_operand b) = absurd (b operand q)
 one_misuse words m n (IsMisuse.bad_options q a) (IsMisuse.bad_options p b) = refl
 
--- one outcome for each text gives one problem
-module _ (one : (files : List NamedFile) (name : Name) (bytes : List ℕ) (a b : Outcome) → GathersAll files name bytes a → GathersAll files name bytes b → a ≡ b) where
+-- one outcome for each text, and one problem for its statements, give one problem
+module _ (one : (files : List NamedFile) (name : Name) (bytes : List ℕ) (a b : Outcome) → GathersAll files name bytes a → GathersAll files name bytes b → a ≡ b)
+    (typed : (statements : List RawStatement) (p q : Problem) → MakeProblem statements p → MakeProblem statements q → p ≡ q) where
   same_list : (l m : List Placed) (i j : ℕ) → Outcome.gathered l i ≡ Outcome.gathered m j → l ≡ m
   same_list l m i j e = cc
-
-  same_ok : (p q : Problem) → ◌≡◌ {A = Result Problem Refusal} (Ok p) (Ok q) → p ≡ q
-  same_ok p q e = cc
 
   one_made : (files : List NamedFile) (name : Name) (bytes : List ℕ) (p q : Problem) → Makes files name bytes p → Makes files name bytes q → p ≡ q
   one_made files name bytes p q m n =
       let lists = same_list m.list n.list m.gathered.count n.gathered.count (one files name bytes _ _ m.gathered.gathered n.gathered.gathered) in
-      same_ok p q (sym m.typed ∙ ap (λ l. problem_in (map (λ s. s.statement) l)) lists ∙ n.typed)
+      typed (map (λ s. s.statement) n.list) p q (subst (λ (l : List Placed). MakeProblem (map (λ s. s.statement) l) p) lists m.typed) n.typed
 
   some_same : (a b : List ℕ) → Some a ≡ Some b → a ≡ b
   some_same a b e = cc

@@ -1,5 +1,5 @@
 -- What is answered to a text, at each exit.
-use Rattle.std.proofs.Common.{ℕ, ◌≡◌, ◌≢◌, true, false, List, [], map, Option, Some, None, IfSome, Ok, All, inl, inr, refl, sym, subst}
+use Rattle.std.proofs.Common.{ℕ, ◌≡◌, ◌≢◌, true, false, List, [], map, Option, Some, None, IfSome, All, inl, inr, refl, sym, subst}
 use Rattle.zm_base.specs.Library.{NamedFile}
 use Rattle.zm_logic.specs.Tree.{Problem}
 use Rattle.zm_logic.specs.Problem.{IsTypedProblem}
@@ -8,7 +8,7 @@ use Rattle.tptp_include.specs.Gathering.{Placed, Refusal, Outcome as gathering, 
 use Rattle.tptp_include.specs.declared.refusal.GatherRefusal.{GatherRefusal}
 use Rattle.tptp_include.specs.declared.refusal.GatherRefusal.TheVariants as gather
 use Rattle.tptp_include.specs.Outcomes.{refusal_of}
-use Rattle.tff_typing.specs.Statements.{problem_in}
+use Rattle.tff_typing.specs.Rules.{MakeProblem}
 use Rattle.tff_typing.specs.View.{Refuses}
 use Rattle.tff_typing.specs.declared.typed.TypeRefusal.{TypeRefusal}
 use Rattle.zenon_modulo.specs.declared.outcome.Outcome.{Outcome}
@@ -73,7 +73,7 @@ module _ (files : Option (List NamedFile)) (name : Name) (bytes : List ℕ) (ste
   ungathered_answers gather.Memory o text h x t = memory_answers o text x t
 
 pub makes_problem : (files : Option (List NamedFile)) (name : Name) (bytes : List ℕ) (list : List Placed) (p : Problem)
-    → IfSome files (λ fs. IsGatheredFrom fs name bytes list) → problem_in (map (λ s. s.statement) list) ≡ Ok p → IfSome files (λ fs. Makes fs name bytes p)
+    → IfSome files (λ fs. IsGatheredFrom fs name bytes list) → MakeProblem (map (λ s. s.statement) list) p → IfSome files (λ fs. Makes fs name bytes p)
 makes_problem None name bytes list p g e = tt
 makes_problem (Some fs) name bytes list p g e = record { list = list; gathered = g; typed = e }
 

@@ -1,12 +1,12 @@
 -- What the input of a call is: the text of its operand, the statements gathered from it, and the problem that they make.
-use Rattle.std.specs.Prelude.{ℕ, ◌≡◌, ◌<◌, ◌≤◌, ◌+◌, false, codes, List, map, length, drop, Option, Some, None, IfSome, Ok}
+use Rattle.std.specs.Prelude.{ℕ, ◌≡◌, ◌<◌, ◌≤◌, ◌+◌, false, codes, List, map, length, drop, Option, Some, None, IfSome}
 use Rattle.zm_base.specs.Outside.{AtEnd}
 use Rattle.zm_base.specs.Library.{NamedFile, file_of}
 use Rattle.zm_logic.specs.Tree.{Problem}
 use Rattle.zm_logic.specs.Problem.{IsTypedProblem}
 use Rattle.tptp_include.specs.Gathering.{Placed, Refusal, Outcome, GathersAll}
 use Rattle.tptp_include.specs.Outcomes.{refusal_of}
-use Rattle.tff_typing.specs.Statements.{problem_in}
+use Rattle.tff_typing.specs.Rules.{MakeProblem}
 use Rattle.tff_typing.specs.View.{Refuses}
 use Rattle.zenon_modulo.specs.declared.outcome.InputRefusal.{InputRefusal}
 use Rattle.zenon_modulo.specs.declared.outcome.InputRefusal.TheVariants as refusals
@@ -36,11 +36,11 @@ pub record IsGatheredFrom (files : List NamedFile) (name : Name) (bytes : List �
   pub count : ℕ
   pub gathered : GathersAll files name bytes (Outcome.gathered list count)
 
--- the problem that the statements of a text make
+-- the problem that the statements of a text make, by the rules of typing
 pub record Makes (files : List NamedFile) (name : Name) (bytes : List ℕ) (p : Problem) : Type 0 where
   pub list : List Placed
   pub gathered : IsGatheredFrom files name bytes list
-  pub typed : problem_in (map (λ s. s.statement) list) ≡ Ok p
+  pub typed : MakeProblem (map (λ s. s.statement) list) p
 
 -- the operand's text is these bytes, and they are not too many
 pub record IsText (text : Option (List ℕ)) (bytes : List ℕ) : Type 0 where

@@ -1,6 +1,7 @@
 //! What the definitions come to, beside what the calls claim of them. Each function does nothing: its clause is the law.
 ghost use Rattle.zenon_modulo.specs.Laws.{SpelledProblemsAreEqual, CommandsAreEqual, MisusesAreEqual, CommandsAreNotMisused};
 
+use tff_typing::laws::one_problem;
 use tptp_include::outcomes_are_equal;
 
 /// The text of an operand spells at most one problem. So the clauses of `run` speak of one and the same.
@@ -8,6 +9,7 @@ pub fn spelled_problems_are_equal()
     ensures { SpelledProblemsAreEqual }
 {
     outcomes_are_equal();
+    one_problem();
 }
 
 /// Words are at most one command.

@@ -1,5 +1,5 @@
-use Rattle.tff_typing.proofs.Problems.{problem_is_typed}
+use Rattle.tff_typing.proofs.Agreement.{made_problem_is_typed}
 use Rattle.tff_typing.proofs.laws.typed_problems.Goals as goal
 
 pub returns : goal.returns
-returns c = problem_is_typed
+returns c = made_problem_is_typed
