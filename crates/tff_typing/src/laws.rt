@@ -21,8 +21,8 @@ pub fn one_problem()
         → MakeProblem statements p → MakeProblem statements q → p ≡ q }
 {}
 
-/// Statements make a problem by the rules exactly where the function in the order of the text gives it, and one statement
-/// makes a state of another exactly where that function gives it.
+/// Statements make a problem by the rules exactly where the function in the order of the text gives it, and one
+/// statement makes a state of another one exactly where that function gives it.
 pub fn rules_agree()
     ensures problems { (statements : List RawStatement) (p : Problem)
         → MakeProblem statements p ↔ (problem_in statements ≡ Ok p) }
@@ -30,8 +30,8 @@ pub fn rules_agree()
         → MakesState state s after ↔ (statement_in state s ≡ Ok after) }
 {}
 
-/// Statements make a problem by the rules, or they have a refusal, and never both; and the refusal is one. It stands at the
-/// first statement that has no typing by the rules, with the first fault of that statement.
+/// Statements make a problem by the rules, or they have a refusal, and never both; and the refusal is one. It stands at
+/// the first statement that has no typing by the rules, with the first fault of that statement.
 pub fn first_fault()
     ensures either { (statements : List RawStatement)
         → ((p : Problem) × MakeProblem statements p) ⊎ ((r : Refusal) × (problem_in statements ≡ Err r)) }
@@ -43,8 +43,8 @@ pub fn first_fault()
         → problem_in statements ≡ Err r → IsFirstUntyped statements r }
 {}
 
-/// The same for one statement and what those before it make: it makes a state by the rules, or it has a first fault, and
-/// never both; and the first fault is one.
+/// The same for one statement and what those before it make: it makes a state by the rules, or it has a first fault,
+/// and never both; and the first fault is one.
 pub fn first_fault_of_a_statement()
     ensures either { (state : State) (s : RawStatement)
         → ((after : State) × MakesState state s after) ⊎ ((f : Fault) × (statement_in state s ≡ Err f)) }
