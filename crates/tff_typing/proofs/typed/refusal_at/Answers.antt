@@ -1,4 +1,3 @@
-use Rattle.std.proofs.Common.{◌≡◌}
 use Rattle.tff_typing.proofs.States.{refuses}
 use Rattle.tff_typing.proofs.typed.refusal_at.Goals as goal
 

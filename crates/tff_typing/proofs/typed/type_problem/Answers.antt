@@ -1,4 +1,3 @@
-use Rattle.std.proofs.Common.{◌≡◌}
 use Rattle.tff_typing.proofs.States.{typed_problem, gathered_within}
 use Rattle.tff_typing.proofs.typed.type_problem.Goals as goal
 
