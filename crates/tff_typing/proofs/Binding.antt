@@ -81,7 +81,8 @@ mutual
 
 -- the next number is fresh for what is over the variables in scope
 pub next_is_fresh : (s : Scope) (p : Parameter) → IsInScope s p → IsNot (length s) p
-next_is_fresh s (Parameter.type_param n) h = λ e. let l : n < length s = binder_below s n Binder.of_type h in omega arith
+next_is_fresh s (Parameter.type_param n) h =
+    λ e. let l : n < length s = binder_below s n Binder.of_type h in omega arith
 next_is_fresh s (Parameter.type_meta n) h = absurd h
 next_is_fresh s (Parameter.eps n t) h = λ e. let l : n < length s = binder_below s n (Binder.of_term t) h in omega arith
 next_is_fresh s (Parameter.meta n t) h = absurd h
@@ -93,7 +94,8 @@ IsLeft s p = IsInScope s p × IsNot (length s) p
 left : (s : Scope) (p : Parameter) → IsInScope s p → IsLeft s p
 left s p h = (h, next_is_fresh s p h)
 
-steady : (symbols : List Symbol) (s : Scope) (o : Opening) (k m : ℕ) (t : Ty) → IsTypeIn symbols s t → binder_of s m ≡ Some (Binder.of_term t)
+steady : (symbols : List Symbol) (s : Scope) (o : Opening) (k m : ℕ) (t : Ty) → IsTypeIn symbols s t
+    → binder_of s m ≡ Some (Binder.of_term t)
     → (m == length s) ≡ false → TermRebound (length s) o (IsLeft s) k (Term.eps m t)
 steady symbols s o k m t typed h e =
     let fresh = each_type (IsInScope s) (IsNot (length s)) (next_is_fresh s) t typed.each in
@@ -105,7 +107,8 @@ steady symbols s o k m t typed h e =
       closed = rw (e, same) (type_closed symbols (k + 1) t typed.typed);
     }
 
-other_type : (s : Scope) (o : Opening) (k m : ℕ) → binder_of s m ≡ Some Binder.of_type → (m == length s) ≡ false → TypeRebound (length s) o (IsLeft s) k (Ty.param m)
+other_type : (s : Scope) (o : Opening) (k m : ℕ) → binder_of s m ≡ Some Binder.of_type → (m == length s) ≡ false
+    → TypeRebound (length s) o (IsLeft s) k (Ty.param m)
 other_type s o k m h e = record { back = rw e; each = rw e (left s (Parameter.type_param m) h); closed = rw e tt }
 
 of_type_of_term : (t : Ty) → Some Binder.of_type ≡ Some (Binder.of_term t) → ⊥
@@ -115,7 +118,8 @@ of_term_same : (t u : Ty) → Some (Binder.of_term t) ≡ Some (Binder.of_term u
 of_term_same t u h = cc
 
 module _ (symbols : List Symbol) (s : Scope) (v : Variable) (ok : IsScope symbols s) where
-  pub rebinds_type : v.binder ≡ Binder.of_type → Rebinds (length s) (Opening.of_type (Ty.param (length s))) (IsInScope (v ∷ s)) (IsLeft s)
+  pub rebinds_type : v.binder ≡ Binder.of_type
+      → Rebinds (length s) (Opening.of_type (Ty.param (length s))) (IsInScope (v ∷ s)) (IsLeft s)
   rebinds_type b = record {
     params = λ k m h. params k m h;
     no_type_meta = λ m h. h;
@@ -125,7 +129,8 @@ module _ (symbols : List Symbol) (s : Scope) (v : Variable) (ok : IsScope symbol
     term_index = λ k i l. refl;
   }
     where
-      params : (k m : ℕ) → binder_of (v ∷ s) m ≡ Some Binder.of_type → TypeRebound (length s) (Opening.of_type (Ty.param (length s))) (IsLeft s) k (Ty.param m)
+      params : (k m : ℕ) → binder_of (v ∷ s) m ≡ Some Binder.of_type
+          → TypeRebound (length s) (Opening.of_type (Ty.param (length s))) (IsLeft s) k (Ty.param m)
       params k m h = go (m == length s) refl h
         where
           go : (q : Bool) → (m == length s) ≡ q → (if q then Some v.binder else binder_of s m) ≡ Some Binder.of_type
@@ -136,7 +141,8 @@ module _ (symbols : List Symbol) (s : Scope) (v : Variable) (ok : IsScope symbol
               record { back = rw (e, j) (ap Ty.param (sym i)); each = rw e tt; closed = rw e (omega arith) }
           go false e h = other_type s (Opening.of_type (Ty.param (length s))) k m h e
 
-      eps : (k m : ℕ) (t : Ty) → binder_of (v ∷ s) m ≡ Some (Binder.of_term t) → TermRebound (length s) (Opening.of_type (Ty.param (length s))) (IsLeft s) k (Term.eps m t)
+      eps : (k m : ℕ) (t : Ty) → binder_of (v ∷ s) m ≡ Some (Binder.of_term t)
+          → TermRebound (length s) (Opening.of_type (Ty.param (length s))) (IsLeft s) k (Term.eps m t)
       eps k m t h = go (m == length s) refl h
         where
           go : (q : Bool) → (m == length s) ≡ q → (if q then Some v.binder else binder_of s m) ≡ Some (Binder.of_term t)
@@ -144,7 +150,8 @@ module _ (symbols : List Symbol) (s : Scope) (v : Variable) (ok : IsScope symbol
           go true e h = absurd (of_type_of_term t (ap Some (sym b) ∙ h))
           go false e h = steady symbols s (Opening.of_type (Ty.param (length s))) k m t (carried symbols s m t ok h) h e
 
-  pub rebinds_term : (u : Ty) → v.binder ≡ Binder.of_term u → Rebinds (length s) (Opening.of_term (Term.eps (length s) u)) (IsInScope (v ∷ s)) (IsLeft s)
+  pub rebinds_term : (u : Ty) → v.binder ≡ Binder.of_term u
+      → Rebinds (length s) (Opening.of_term (Term.eps (length s) u)) (IsInScope (v ∷ s)) (IsLeft s)
   rebinds_term u b = record {
     params = λ k m h. params k m h;
     no_type_meta = λ m h. h;
@@ -154,7 +161,8 @@ module _ (symbols : List Symbol) (s : Scope) (v : Variable) (ok : IsScope symbol
     term_index = λ k i l. rw (index_apart i k l);
   }
     where
-      params : (k m : ℕ) → binder_of (v ∷ s) m ≡ Some Binder.of_type → TypeRebound (length s) (Opening.of_term (Term.eps (length s) u)) (IsLeft s) k (Ty.param m)
+      params : (k m : ℕ) → binder_of (v ∷ s) m ≡ Some Binder.of_type
+          → TypeRebound (length s) (Opening.of_term (Term.eps (length s) u)) (IsLeft s) k (Ty.param m)
       params k m h = go (m == length s) refl h
         where
           go : (q : Bool) → (m == length s) ≡ q → (if q then Some v.binder else binder_of s m) ≡ Some Binder.of_type
@@ -162,7 +170,8 @@ module _ (symbols : List Symbol) (s : Scope) (v : Variable) (ok : IsScope symbol
           go true e h = absurd (of_type_of_term u (sym h ∙ ap Some b))
           go false e h = other_type s (Opening.of_term (Term.eps (length s) u)) k m h e
 
-      eps : (k m : ℕ) (t : Ty) → binder_of (v ∷ s) m ≡ Some (Binder.of_term t) → TermRebound (length s) (Opening.of_term (Term.eps (length s) u)) (IsLeft s) k (Term.eps m t)
+      eps : (k m : ℕ) (t : Ty) → binder_of (v ∷ s) m ≡ Some (Binder.of_term t)
+          → TermRebound (length s) (Opening.of_term (Term.eps (length s) u)) (IsLeft s) k (Term.eps m t)
       eps k m t h = go (m == length s) refl h
         where
           go : (q : Bool) → (m == length s) ≡ q → (if q then Some v.binder else binder_of s m) ≡ Some (Binder.of_term t)
@@ -172,9 +181,11 @@ module _ (symbols : List Symbol) (s : Scope) (v : Variable) (ok : IsScope symbol
               let j : (k == k) ≡ true = itself k in
               let same : u ≡ t = of_term_same u t (ap Some (sym b) ∙ h) in
               record { back = rw (e, j) (cc); each = rw e tt; closed = rw e (omega arith) }
-          go false e h = steady symbols s (Opening.of_term (Term.eps (length s) u)) k m t (carried symbols s m t ok h) h e
+          go false e h =
+              steady symbols s (Opening.of_term (Term.eps (length s) u)) k m t (carried symbols s m t ok h) h e
 
-pub bound_form : (symbols : List Symbol) (s : Scope) (v : Variable) (q : Quantifier) (f : Form) → IsScope symbols s → (b : Binder) → v.binder ≡ b
+pub bound_form : (symbols : List Symbol) (s : Scope) (v : Variable) (q : Quantifier) (f : Form) → IsScope symbols s
+    → (b : Binder) → v.binder ≡ b
     → IsBinderIn symbols s b → IsFormIn symbols (v ∷ s) f → IsFormIn symbols s (bind q b (length s) f)
 bound_form symbols s v q f ok Binder.of_type b i h =
     let n = length s in
@@ -190,7 +201,9 @@ bound_form symbols s v q f ok (Binder.of_term t) b i h =
     let e = each (IsLeft s) (IsInScope s) (λ p x. x.0) (close f n) r.each in
     let fresh = each (IsLeft s) (IsNot n) (λ p x. x.1) (close f n) r.each in
     record {
-      typed = WellTyped.quantified n (each_type (IsInScope s) (IsNot n) (next_is_fresh s) t i.each, fresh) i.typed (rw r.back h.typed);
+      typed =
+          WellTyped.quantified n (each_type (IsInScope s) (IsNot n) (next_is_fresh s) t i.each, fresh) i.typed
+          (rw r.back h.typed);
       each = (i.each, e);
       closed = (type_closed symbols 0 t i.typed, r.closed);
     }

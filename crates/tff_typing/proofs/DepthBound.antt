@@ -162,7 +162,8 @@ module _ (d : ℕ) where
         all_opened_weight Tys.none = omega arith
         all_opened_weight (Tys.more t ts) = omega (arith, opened_weight t, all_opened_weight ts)
 
-    instance_weight : (ts : Tys) (r : Ty) → AreTypes symbols 0 ts → types_depth ts ≤ d → weighed (type_instance (openings ts) r) ≤ weighed r
+    instance_weight : (ts : Tys) (r : Ty) → AreTypes symbols 0 ts → types_depth ts ≤ d
+        → weighed (type_instance (openings ts) r) ≤ weighed r
     instance_weight Tys.none r h l = omega arith
     instance_weight (Tys.more u us) r h l =
         let o = opened_weight (length (openings us)) u h.0 (omega arith) r in
@@ -170,7 +171,8 @@ module _ (d : ℕ) where
         omega arith
 
 -- a declared type at types is as deep as both together at most
-pub instance_depth : (symbols : List Symbol) (ts : Tys) (r : Ty) → AreTypes symbols 0 ts → type_depth (type_instance (openings ts) r) ≤ type_depth r + types_depth ts
+pub instance_depth : (symbols : List Symbol) (ts : Tys) (r : Ty) → AreTypes symbols 0 ts
+    → type_depth (type_instance (openings ts) r) ≤ type_depth r + types_depth ts
 instance_depth symbols ts r h =
     let d = types_depth ts in
     let a = at_least d (type_instance (openings ts) r) in
@@ -201,7 +203,8 @@ module _ (table : Table) (s : Scope) where
         let e = ap type_depth (ok_same (Ty.con a.0 b.0) u b.2) in
         omega arith
 
-    pub written_types_depth : (ts : RawTypes) (us : Tys) → types_in table s ts ≡ Ok us → types_depth us ≤ raw_types_depth ts
+    pub written_types_depth : (ts : RawTypes) (us : Tys) → types_in table s ts ≡ Ok us
+        → types_depth us ≤ raw_types_depth ts
     written_types_depth RawTypes.none us h = let e = ap types_depth (ok_same Tys.none us h) in omega arith
     written_types_depth (RawTypes.more t ts) us h =
         let a = both_ok (type_in table s t) _ us h in

@@ -28,7 +28,8 @@ use Rattle.tff_typing.proofs.DepthBound.{ground_depth, flat, flats, flat_depth, 
 
 -- declared types, and the types of variables, are as deep as a written type may be
 pub record IsShallowTable (table : Table) : Type 0 where
-  pub at : (n : ℕ) (d : Symbol) (r : Ty) → nth (symbols_of table) n ≡ Some d → d.sense ≡ Sense.function r → type_depth r ≤ 201
+  pub at : (n : ℕ) (d : Symbol) (r : Ty) → nth (symbols_of table) n ≡ Some d → d.sense ≡ Sense.function r
+      → type_depth r ≤ 201
   pub arguments : (n : ℕ) (d : Symbol) → nth (symbols_of table) n ≡ Some d → types_depth d.arguments ≤ 201
 
 individuals_depth : (n : ℕ) → types_depth (individuals_of n) ≤ 1
@@ -63,12 +64,20 @@ module _ (table : Table) (place : Place) (x : Name) (n : ℕ) where
 
   left_symbol : (d : Numbered) (y : Sense) (u : Use) → if_symbol table d y ≡ Ok u → Left u
   left_symbol d Sense.constructor u h = absurd (no_ok _ u h)
-  left_symbol d Sense.predicate u h = inl (ap (λ (z : Use). z.table) (ok_same (record { found = d; table = table }) u h))
-  left_symbol d (Sense.function r) u h = inl (ap (λ (z : Use). z.table) (ok_same (record { found = d; table = table }) u h))
+  left_symbol d Sense.predicate u h =
+      inl (ap (λ (z : Use). z.table) (ok_same (record { found = d; table = table }) u h))
+  left_symbol d (Sense.function r) u h =
+      inl (ap (λ (z : Use). z.table) (ok_same (record { found = d; table = table }) u h))
 
   left_new : (u : Use) → new_symbol table false (undeclared place x n) ≡ Ok u → Left u
   left_new u h =
-      let r : Use = record { found = record { number = suc (length table); symbol = undeclared place x n }; table = with_entry table false (undeclared place x n) } in
+      let r : Use = record {
+        found = record {
+          number = suc (length table);
+          symbol = undeclared place x n;
+        };
+        table = with_entry table false (undeclared place x n);
+      } in
       let t = test_held (nat_lt (length table) most_symbols) (Ok r) Fault.too_many_symbols u h in
       inr (ap (λ (z : Use). z.table) (ok_same r u t.1))
 
@@ -85,15 +94,20 @@ module _ (table : Table) (place : Place) (x : Name) (n : ℕ) where
 pub function_same : (a b : Ty) → Sense.function a ≡ Sense.function b → a ≡ b
 function_same a b h = cc
 
-new_shallow : (table : Table) (place : Place) (x : Name) (n : ℕ) → IsShallowTable table → IsShallowTable (with_entry table false (undeclared place x n))
+new_shallow : (table : Table) (place : Place) (x : Name) (n : ℕ) → IsShallowTable table
+    → IsShallowTable (with_entry table false (undeclared place x n))
 new_shallow table place x n ok = record { at = at; arguments = arguments }
   where
-    arguments : (m : ℕ) (d : Symbol) → nth (symbols_of (with_entry table false (undeclared place x n))) m ≡ Some d → types_depth d.arguments ≤ 201
-    arguments m d h = let q = rw (symbols_more table false (undeclared place x n)) at h in go (in_more (symbols_of table) (undeclared place x n) m d q)
+    arguments : (m : ℕ) (d : Symbol) → nth (symbols_of (with_entry table false (undeclared place x n))) m ≡ Some d
+        → types_depth d.arguments ≤ 201
+    arguments m d h =
+        let q = rw (symbols_more table false (undeclared place x n)) at h in go
+        (in_more (symbols_of table) (undeclared place x n) m d q)
       where
         go : InMore (symbols_of table) (undeclared place x n) m d → types_depth d.arguments ≤ 201
         go (InMore.before l i) = ok.arguments m d i
-        go (InMore.last l i) = let k = ap (λ (y : Symbol). types_depth y.arguments) i in let b = individuals_depth n in omega arith
+        go (InMore.last l i) =
+            let k = ap (λ (y : Symbol). types_depth y.arguments) i in let b = individuals_depth n in omega arith
 
     made : (p : Place) (r : Ty) → sense_at p ≡ Sense.function r → type_depth r ≤ 201
     made Place.formula r h = absurd (no h)
@@ -102,7 +116,8 @@ new_shallow table place x n ok = record { at = at; arguments = arguments }
         no h = cc
     made Place.term r h = let e = ap type_depth (function_same individual r h) in omega arith
 
-    at : (m : ℕ) (d : Symbol) (r : Ty) → nth (symbols_of (with_entry table false (undeclared place x n))) m ≡ Some d → d.sense ≡ Sense.function r → type_depth r ≤ 201
+    at : (m : ℕ) (d : Symbol) (r : Ty) → nth (symbols_of (with_entry table false (undeclared place x n))) m ≡ Some d
+        → d.sense ≡ Sense.function r → type_depth r ≤ 201
     at m d r h e =
         let q = rw (symbols_more table false (undeclared place x n)) at h in
         go (in_more (symbols_of table) (undeclared place x n) m d q)
@@ -111,14 +126,16 @@ new_shallow table place x n ok = record { at = at; arguments = arguments }
         go (InMore.before l i) = ok.at m d r i e
         go (InMore.last l i) = made place r (ap (λ (y : Symbol). y.sense) i ∙ e)
 
-use_shallow : (table : Table) (place : Place) (x : Name) (n : ℕ) (u : Use) → IsShallowTable table → symbol_for table place x n ≡ Ok u → IsShallowTable u.table
+use_shallow : (table : Table) (place : Place) (x : Name) (n : ℕ) (u : Use) → IsShallowTable table
+    → symbol_for table place x n ≡ Ok u → IsShallowTable u.table
 use_shallow table place x n u ok h = go (left_declared table place x n (declared table x) u h)
   where
     go : (table ≡ u.table) ⊎ (with_entry table false (undeclared place x n) ≡ u.table) → IsShallowTable u.table
     go (inl e) = subst (λ (t : Table). IsShallowTable t) e ok
     go (inr e) = subst (λ (t : Table). IsShallowTable t) e (new_shallow table place x n ok)
 
-carried_depth : (s : Scope) (n : ℕ) (t : Ty) → IsShallowScope s → binder_of s n ≡ Some (Binder.of_term t) → type_depth t ≤ 201
+carried_depth : (s : Scope) (n : ℕ) (t : Ty) → IsShallowScope s → binder_of s n ≡ Some (Binder.of_term t)
+    → type_depth t ≤ 201
 carried_depth [] n t ok h = absurd (no_some (Binder.of_term t) h)
 carried_depth (v ∷ vs) n t ok h = go (n == length vs) h (λ i. carried_depth vs n t ok.1 i)
   where
@@ -127,7 +144,8 @@ carried_depth (v ∷ vs) n t ok h = go (n == length vs) h (λ i. carried_depth v
     go true h later = subst (λ (x : Binder). IsShallowBinder x) (some_same v.binder (Binder.of_term t) h) ok.0
     go false h later = later h
 
-variable_depth : (s : Scope) (o : Option Bound) (e : Expression) → IsShallowScope s → ((b : Bound) → o ≡ Some b → binder_of s b.number ≡ Some b.binder)
+variable_depth : (s : Scope) (o : Option Bound) (e : Expression) → IsShallowScope s
+    → ((b : Bound) → o ≡ Some b → binder_of s b.number ≡ Some b.binder)
     → term_variable o ≡ Ok e → IsShallow 1 e
 variable_depth s None e ok found h = absurd (no_ok _ e h)
 variable_depth s (Some b) e ok found h = go b.binder (found b refl) h
@@ -136,9 +154,11 @@ variable_depth s (Some b) e ok found h = go b.binder (found b refl) h
     go Binder.of_type i h = absurd (no_ok _ e h)
     go (Binder.of_term t) i h =
         let l = carried_depth s b.number t ok i in
-        subst (λ (y : Expression). IsShallow 1 y) (ok_same (Expression.term t (Term.eps b.number t)) e h) (omega arith, omega arith)
+        subst (λ (y : Expression). IsShallow 1 y) (ok_same (Expression.term t (Term.eps b.number t)) e h)
+        (omega arith, omega arith)
 
-applied_depth : (symbols : List Symbol) (f : ℕ) (ts : Tys) (us : Terms) (k : ℕ) (x : Sense) → AreTypes symbols 0 ts → types_depth ts ≤ k → flats us ≤ k → k ≤ 200
+applied_depth : (symbols : List Symbol) (f : ℕ) (ts : Tys) (us : Terms) (k : ℕ) (x : Sense) → AreTypes symbols 0 ts
+    → types_depth ts ≤ k → flats us ≤ k → k ≤ 200
     → ((r : Ty) → x ≡ Sense.function r → type_depth r ≤ 201) → IsShallow (1 + k) (applied f ts us x)
 applied_depth symbols f ts us k Sense.constructor h a b c r = omega arith
 applied_depth symbols f ts us k Sense.predicate h a b c r = omega arith
@@ -154,14 +174,16 @@ wanted_depth k t (Expression.term v a) u ok h =
 wanted_depth k t (Expression.atom p ts us) u ok h = absurd (no_ok _ u h)
 
 -- the result of a symbol that stands in a table
-result_depth : (table : Table) (f : ℕ) (d : Symbol) (r : Ty) → IsShallowTable table → symbol_at (symbols_of table) f ≡ Some d → d.sense ≡ Sense.function r → type_depth r ≤ 201
+result_depth : (table : Table) (f : ℕ) (d : Symbol) (r : Ty) → IsShallowTable table
+    → symbol_at (symbols_of table) f ≡ Some d → d.sense ≡ Sense.function r → type_depth r ≤ 201
 result_depth table zero d r ok h e = absurd (no (ap (λ (y : Symbol). y.sense) (some_same individuals d h) ∙ e))
   where
     no : Sense.constructor ≡ Sense.function r → ⊥
     no h = cc
 result_depth table (suc n) d r ok h e = ok.at n d r h e
 
-variable_tree_depth : (table : Table) (s : Scope) (x : Name) (e : Typed Expression) → IsShallowTable table → IsShallowScope s
+variable_tree_depth : (table : Table) (s : Scope) (x : Name) (e : Typed Expression) → IsShallowTable table
+    → IsShallowScope s
     → unchanged table (term_variable (look_up s x)) ≡ Ok e → IsShallowTyped 1 e
 variable_tree_depth table s x e shallow small h =
     let a = both_ok (term_variable (look_up s x)) (λ y. gives table y) e h in
@@ -179,11 +201,14 @@ abbrev no_terms : Table → Typed Terms
 no_terms table = record { tree = Terms.none; table = table }
 
 mutual
-  pub expression_depth : (table : Table) (s : Scope) (place : Place) (u : RawTerm) (e : Typed Expression) → IsTable table → IsScope (symbols_of table) s
-      → IsShallowTable table → IsShallowScope s → raw_term_depth u ≤ 201 → expression_in table s place u ≡ Ok e → IsShallowTyped (raw_term_depth u) e
+  pub expression_depth : (table : Table) (s : Scope) (place : Place) (u : RawTerm) (e : Typed Expression)
+      → IsTable table → IsScope (symbols_of table) s
+      → IsShallowTable table → IsShallowScope s → raw_term_depth u ≤ 201 → expression_in table s place u ≡ Ok e
+      → IsShallowTyped (raw_term_depth u) e
   expression_depth table s place RawTerm.individual e ok scope shallow small l h = absurd (no_ok _ e h)
   expression_depth table s place RawTerm.truth e ok scope shallow small l h = absurd (no_ok _ e h)
-  expression_depth table s place (RawTerm.variable x) e ok scope shallow small l h = variable_tree_depth table s x e shallow small h
+  expression_depth table s place (RawTerm.variable x) e ok scope shallow small l h =
+      variable_tree_depth table s x e shallow small h
   expression_depth table s place (RawTerm.named f us) e ok scope shallow small l h =
       let a = both_ok (symbol_for table place f (number_of_terms us)) _ e h in
       let d = a.0 in
@@ -203,20 +228,25 @@ mutual
       subst (λ (y : Typed Expression). IsShallowTyped (1 + raw_terms_depth us) y) (ok_same (named_gives d ts vs) e c.2)
       (record {
         tree =
-            applied_depth (symbols_of d.table) d.found.number ts vs.tree (raw_terms_depth us) d.found.symbol.sense t.typed (omega arith) v.trees (omega arith)
+            applied_depth (symbols_of d.table) d.found.number ts vs.tree
+            (raw_terms_depth us) d.found.symbol.sense t.typed (omega arith) v.trees (omega arith)
             (λ r q. result_depth d.table d.found.number d.found.symbol r table_shallow x.at q);
         table = v.table;
       })
 
-  pub terms_depth_is : (table : Table) (s : Scope) (n : ℕ) (ws : Tys) (us : RawTerms) (e : Typed Terms) → IsTable table → IsScope (symbols_of table) s
-      → IsShallowTable table → IsShallowScope s → raw_terms_depth us ≤ 200 → terms_in table s n ws us ≡ Ok e → AreShallowTyped (raw_terms_depth us) e
+  pub terms_depth_is : (table : Table) (s : Scope) (n : ℕ) (ws : Tys) (us : RawTerms) (e : Typed Terms) → IsTable table
+      → IsScope (symbols_of table) s
+      → IsShallowTable table → IsShallowScope s → raw_terms_depth us ≤ 200 → terms_in table s n ws us ≡ Ok e
+      → AreShallowTyped (raw_terms_depth us) e
   terms_depth_is table s n ws RawTerms.none e ok scope shallow small l h =
-      subst (λ (y : Typed Terms). AreShallowTyped 0 y) (ok_same (no_terms table) e h) (record { trees = omega arith; table = shallow })
+      subst (λ (y : Typed Terms). AreShallowTyped 0 y) (ok_same (no_terms table) e h)
+      (record { trees = omega arith; table = shallow })
   terms_depth_is table s (suc n) ws (RawTerms.more u us) e ok scope shallow small l h =
       let i = terms_depth_is table s n ws us e ok scope shallow small (omega arith) h in
       record { trees = omega (arith, i.trees); table = i.table }
   terms_depth_is table s zero Tys.none (RawTerms.more u us) e ok scope shallow small l h =
-      subst (λ (y : Typed Terms). AreShallowTyped (max (raw_term_depth u) (raw_terms_depth us)) y) (ok_same (no_terms table) e h) (record { trees = omega arith; table = shallow })
+      subst (λ (y : Typed Terms). AreShallowTyped (max (raw_term_depth u) (raw_terms_depth us)) y)
+      (ok_same (no_terms table) e h) (record { trees = omega arith; table = shallow })
   terms_depth_is table s zero (Tys.more w ws) (RawTerms.more u us) e ok scope shallow small l h =
       let a = both_ok (expression_in table s Place.term u) _ e h in
       let x = a.0 in
@@ -226,9 +256,11 @@ mutual
       let i = expression_sound table s Place.term u x ok scope a.1 in
       let j = expression_depth table s Place.term u x ok scope shallow small (omega arith) a.1 in
       let k = wanted_depth (raw_term_depth u) w x.tree b.0 j.tree b.1 in
-      let v = terms_depth_is x.table s zero ws us vs i.grown.good (scope_kept (symbols_of table) (symbols_of x.table) s i.grown.grows scope) j.table small (omega arith) c.1 in
+      let v = terms_depth_is x.table s zero ws us vs i.grown.good
+      (scope_kept (symbols_of table) (symbols_of x.table) s i.grown.grows scope) j.table small (omega arith) c.1 in
       let m = v.trees in
-      subst (λ (y : Typed Terms). AreShallowTyped (max (raw_term_depth u) (raw_terms_depth us)) y) (ok_same (more_gives b.0 vs) e c.2)
+      subst (λ (y : Typed Terms). AreShallowTyped (max (raw_term_depth u) (raw_terms_depth us)) y)
+      (ok_same (more_gives b.0 vs) e c.2)
       (record { trees = omega arith; table = v.table })
 
 -- formulas
@@ -247,14 +279,16 @@ left_depth : (k : ℕ) (x : Expression) (t : Ty) → IsShallow k x → left_side
 left_depth k (Expression.term u a) t ok h = let e = ap type_depth (ok_same u t h) in let l = ok.0 in omega arith
 left_depth k (Expression.atom p ts us) t ok h = absurd (no_ok _ t h)
 
-written_binder : (table : Table) (s : Scope) (t : RawType) (b : Binder) → raw_type_depth t ≤ 201 → (type_in table s t >>= λ u. Ok (Binder.of_term u)) ≡ Ok b → IsShallowBinder b
+written_binder : (table : Table) (s : Scope) (t : RawType) (b : Binder) → raw_type_depth t ≤ 201
+    → (type_in table s t >>= λ u. Ok (Binder.of_term u)) ≡ Ok b → IsShallowBinder b
 written_binder table s t b l h =
     let a = both_ok (type_in table s t) (λ u. Ok (Binder.of_term u)) b h in
     let i = written_type_depth table s t a.0 a.1 in
     subst (λ (x : Binder). IsShallowBinder x) (ok_same (Binder.of_term a.0) b a.2) (omega arith)
 
 quantifier_binder : (q : Quantifier) (front : Bool) (b : Binder) → type_quantifier q front ≡ Ok b → IsShallowBinder b
-quantifier_binder Quantifier.universal true b h = subst (λ (x : Binder). IsShallowBinder x) (ok_same Binder.of_type b h) tt
+quantifier_binder Quantifier.universal true b h =
+    subst (λ (x : Binder). IsShallowBinder x) (ok_same Binder.of_type b h) tt
 quantifier_binder Quantifier.universal false b h = absurd (no_ok _ b h)
 quantifier_binder Quantifier.existential front b h = absurd (no_ok _ b h)
 
@@ -262,9 +296,11 @@ abbrev an_individual : Outcome Binder
 an_individual = Ok (Binder.of_term individual)
 
 individual_binder : (b : Binder) → an_individual ≡ Ok b → IsShallowBinder b
-individual_binder b h = subst (λ (x : Binder). IsShallowBinder x) (ok_same (Binder.of_term individual) b h) (omega arith)
+individual_binder b h =
+    subst (λ (x : Binder). IsShallowBinder x) (ok_same (Binder.of_term individual) b h) (omega arith)
 
-binder_depth : (table : Table) (s : Scope) (q : Quantifier) (front : Bool) (o : Option RawType) (b : Binder) → written_depth o ≤ 201
+binder_depth : (table : Table) (s : Scope) (q : Quantifier) (front : Bool) (o : Option RawType) (b : Binder)
+    → written_depth o ≤ 201
     → binder_in table s q front o ≡ Ok b → IsShallowBinder b
 binder_depth table s q front None b l h = individual_binder b h
 binder_depth table s q front (Some RawType.kind) b l h = quantifier_binder q front b h
@@ -273,12 +309,15 @@ binder_depth table s q front (Some RawType.truth) b l h = absurd (no_ok _ b h)
 binder_depth table s q front (Some (RawType.variable x)) b l h = written_binder table s (RawType.variable x) b l h
 binder_depth table s q front (Some (RawType.named c ts)) b l h = written_binder table s (RawType.named c ts) b l h
 
-bound_depth : (q : Quantifier) (b : Binder) (n k w : ℕ) (f : Form) → IsShallowBinder b → flat_depth f ≤ k + 402 → flat_depth (bind q b n f) ≤ 1 + max w k + 402
+bound_depth : (q : Quantifier) (b : Binder) (n k w : ℕ) (f : Form) → IsShallowBinder b → flat_depth f ≤ k + 402
+    → flat_depth (bind q b n f) ≤ 1 + max w k + 402
 bound_depth q Binder.of_type n k w f small h = omega (arith, close_flat_depth n 0 f)
 bound_depth q (Binder.of_term t) n k w f small h = omega (arith, close_flat_depth n 0 f)
 
-equality_depth : (table : Table) (s : Scope) (l r : RawTerm) (e : Typed Form) → IsTable table → IsScope (symbols_of table) s → IsShallowTable table → IsShallowScope s
-    → raw_term_depth l ≤ 201 → raw_term_depth r ≤ 201 → equality_in table s l r ≡ Ok e → IsShallowForm (1 + max (raw_term_depth l) (raw_term_depth r)) e
+equality_depth : (table : Table) (s : Scope) (l r : RawTerm) (e : Typed Form) → IsTable table
+    → IsScope (symbols_of table) s → IsShallowTable table → IsShallowScope s
+    → raw_term_depth l ≤ 201 → raw_term_depth r ≤ 201 → equality_in table s l r ≡ Ok e
+    → IsShallowForm (1 + max (raw_term_depth l) (raw_term_depth r)) e
 equality_depth table s l r e ok scope shallow small p q h =
     let a = both_ok (expression_in table s Place.term l) _ e h in
     let x = a.0 in
@@ -290,19 +329,24 @@ equality_depth table s l r e ok scope shallow small p q h =
     let g = both_ok (wanted t y.tree) _ e d.2 in
     let i = expression_sound table s Place.term l x ok scope a.1 in
     let j = expression_depth table s Place.term l x ok scope shallow small p a.1 in
-    let k = expression_depth x.table s Place.term r y i.grown.good (scope_kept (symbols_of table) (symbols_of x.table) s i.grown.grows scope) j.table small q d.1 in
+    let k = expression_depth x.table s Place.term r y i.grown.good
+    (scope_kept (symbols_of table) (symbols_of x.table) s i.grown.grows scope) j.table small q d.1 in
     let type = left_depth (raw_term_depth l) x.tree t j.tree b.1 in
     let left = wanted_depth (raw_term_depth l) t x.tree c.0 j.tree c.1 in
     let right = wanted_depth (raw_term_depth r) t y.tree g.0 k.tree g.1 in
-    subst (λ (z : Typed Form). IsShallowForm (1 + max (raw_term_depth l) (raw_term_depth r)) z) (ok_same (form_of (Form.equal t c.0 g.0) y.table) e g.2)
+    subst (λ (z : Typed Form). IsShallowForm (1 + max (raw_term_depth l) (raw_term_depth r)) z)
+    (ok_same (form_of (Form.equal t c.0 g.0) y.table) e g.2)
     (record { tree = omega arith; table = k.table })
 
-pub form_depth : (table : Table) (s : Scope) (front : Bool) (f : RawForm) (e : Typed Form) → IsTable table → IsScope (symbols_of table) s → IsShallowTable table
+pub form_depth : (table : Table) (s : Scope) (front : Bool) (f : RawForm) (e : Typed Form) → IsTable table
+    → IsScope (symbols_of table) s → IsShallowTable table
     → IsShallowScope s → IsNested f → form_in table s front f ≡ Ok e → IsShallowForm (raw_depth f) e
 form_depth table s front RawForm.truth e ok scope shallow small l h =
-    subst (λ (z : Typed Form). IsShallowForm 1 z) (ok_same (form_of Form.truth table) e h) (record { tree = omega arith; table = shallow })
+    subst (λ (z : Typed Form). IsShallowForm 1 z) (ok_same (form_of Form.truth table) e h)
+    (record { tree = omega arith; table = shallow })
 form_depth table s front RawForm.falsity e ok scope shallow small l h =
-    subst (λ (z : Typed Form). IsShallowForm 1 z) (ok_same (form_of Form.falsity table) e h) (record { tree = omega arith; table = shallow })
+    subst (λ (z : Typed Form). IsShallowForm 1 z) (ok_same (form_of Form.falsity table) e h)
+    (record { tree = omega arith; table = shallow })
 form_depth table s front (RawForm.plain u) e ok scope shallow small l h =
     let a = both_ok (expression_in table s Place.formula u) _ e h in
     let x = a.0 in
@@ -310,12 +354,14 @@ form_depth table s front (RawForm.plain u) e ok scope shallow small l h =
     let i = expression_depth table s Place.formula u x ok scope shallow small l a.1 in
     subst (λ (z : Typed Form). IsShallowForm (raw_term_depth u) z) (ok_same (form_of b.0 x.table) e b.2)
     (record { tree = atom_depth (raw_term_depth u) x.tree b.0 i.tree b.1; table = i.table })
-form_depth table s front (RawForm.equal a b) e ok scope shallow small l h = equality_depth table s a b e ok scope shallow small l.0 l.1 h
+form_depth table s front (RawForm.equal a b) e ok scope shallow small l h =
+    equality_depth table s a b e ok scope shallow small l.0 l.1 h
 form_depth table s front (RawForm.negation f) e ok scope shallow small l h =
     let a = both_ok (form_in table s false f) _ e h in
     let i = form_depth table s false f a.0 ok scope shallow small l a.1 in
     let t = i.tree in
-    subst (λ (z : Typed Form). IsShallowForm (1 + raw_depth f) z) (ok_same (form_of (Form.negation a.0.tree) a.0.table) e a.2)
+    subst (λ (z : Typed Form). IsShallowForm (1 + raw_depth f) z)
+    (ok_same (form_of (Form.negation a.0.tree) a.0.table) e a.2)
     (record { tree = omega arith; table = i.table })
 form_depth table s front (RawForm.binary c f g) e ok scope shallow small l h =
     let a = both_ok (form_in table s false f) _ e h in
@@ -324,10 +370,12 @@ form_depth table s front (RawForm.binary c f g) e ok scope shallow small l h =
     let y = b.0 in
     let k = form_sound table s false f x ok scope a.1 in
     let i = form_depth table s false f x ok scope shallow small l.0 a.1 in
-    let j = form_depth x.table s false g y k.grown.good (scope_kept (symbols_of table) (symbols_of x.table) s k.grown.grows scope) i.table small l.1 b.1 in
+    let j = form_depth x.table s false g y k.grown.good
+    (scope_kept (symbols_of table) (symbols_of x.table) s k.grown.grows scope) i.table small l.1 b.1 in
     let t = i.tree in
     let u = j.tree in
-    subst (λ (z : Typed Form). IsShallowForm (1 + max (raw_depth f) (raw_depth g)) z) (ok_same (form_of (Form.binary (connective_of c) x.tree y.tree) y.table) e b.2)
+    subst (λ (z : Typed Form). IsShallowForm (1 + max (raw_depth f) (raw_depth g)) z)
+    (ok_same (form_of (Form.binary (connective_of c) x.tree y.tree) y.table) e b.2)
     (record { tree = omega arith; table = j.table })
 form_depth table s front (RawForm.quantified q v f) e ok scope shallow small l h =
     let a = both_ok (binder_in table s q front v.type) _ e h in
@@ -337,11 +385,16 @@ form_depth table s front (RawForm.quantified q v f) e ok scope shallow small l h
     let binder = binder_is table ok s q front v.type a.0 a.1 in
     let low = binder_depth table s q front v.type a.0 l.0 a.1 in
     let i = form_depth table (w ∷ s) (front && is_universal q) f x ok (scope, binder) shallow (low, small) l.1 b.1 in
-    subst (λ (z : Typed Form). IsShallowForm (1 + max (written_depth v.type) (raw_depth f)) z) (ok_same (form_of (bind q a.0 (length s) x.tree) x.table) e b.2)
-    (record { tree = bound_depth q a.0 (length s) (raw_depth f) (written_depth v.type) x.tree low i.tree; table = i.table })
+    subst (λ (z : Typed Form). IsShallowForm (1 + max (written_depth v.type) (raw_depth f)) z)
+    (ok_same (form_of (bind q a.0 (length s) x.tree) x.table) e b.2)
+    (record {
+      tree = bound_depth q a.0 (length s) (raw_depth f) (written_depth v.type) x.tree low i.tree;
+      table = i.table;
+    })
 
 -- a formula of a statement within the limits is a formula of a problem
-pub problem_form : (table : Table) (f : RawForm) (e : Typed Form) → IsTable table → IsShallowTable table → IsNested f → raw_depth f ≤ 1000
+pub problem_form : (table : Table) (f : RawForm) (e : Typed Form) → IsTable table → IsShallowTable table → IsNested f
+    → raw_depth f ≤ 1000
     → form_in table [] true f ≡ Ok e → IsProblemForm (symbols_of e.table) e.tree
 problem_form table f e ok shallow nested low h =
     let i = form_sound table [] true f e ok tt h in

@@ -27,7 +27,8 @@ pub record IsFormSound (s : Scope) (before : Table) (e : Typed Form) : Type 0 wh
 abbrev form_of : Form → Table → Typed Form
 form_of f table = record { tree = f; table = table }
 
-atom_is : (symbols : List Symbol) (s : Scope) (x : Expression) (f : Form) → IsExpressionIn symbols s x → as_formula x ≡ Ok f → IsFormIn symbols s f
+atom_is : (symbols : List Symbol) (s : Scope) (x : Expression) (f : Form) → IsExpressionIn symbols s x
+    → as_formula x ≡ Ok f → IsFormIn symbols s f
 atom_is symbols s (Expression.term t a) f ok h = absurd (no_ok _ f h)
 atom_is symbols s (Expression.atom p ts us) f ok h =
     subst (λ (y : Form). IsFormIn symbols s y) (ok_same (Form.atom p ts us) f h)
@@ -37,35 +38,44 @@ atom_is symbols s (Expression.atom p ts us) f ok h =
       closed = (types_closed symbols 0 ts ok.typed.3, terms_closed symbols 0 us _ ok.typed.4);
     })
 
-quantified_type : (symbols : List Symbol) (s : Scope) (q : Quantifier) (front : Bool) (b : Binder) → type_quantifier q front ≡ Ok b → IsBinderIn symbols s b
-quantified_type symbols s Quantifier.universal true b h = subst (λ (x : Binder). IsBinderIn symbols s x) (ok_same Binder.of_type b h) tt
+quantified_type : (symbols : List Symbol) (s : Scope) (q : Quantifier) (front : Bool) (b : Binder)
+    → type_quantifier q front ≡ Ok b → IsBinderIn symbols s b
+quantified_type symbols s Quantifier.universal true b h =
+    subst (λ (x : Binder). IsBinderIn symbols s x) (ok_same Binder.of_type b h) tt
 quantified_type symbols s Quantifier.universal false b h = absurd (no_ok _ b h)
 quantified_type symbols s Quantifier.existential front b h = absurd (no_ok _ b h)
 
 module _ (table : Table) (ok : IsTable table) (s : Scope) (q : Quantifier) (front : Bool) where
-  written_type : (t : RawType) (b : Binder) → (type_in table s t >>= λ u. Ok (Binder.of_term u)) ≡ Ok b → IsBinderIn (symbols_of table) s b
+  written_type : (t : RawType) (b : Binder) → (type_in table s t >>= λ u. Ok (Binder.of_term u)) ≡ Ok b
+      → IsBinderIn (symbols_of table) s b
   written_type t b h =
       let a = both_ok (type_in table s t) (λ u. Ok (Binder.of_term u)) b h in
-      subst (λ (x : Binder). IsBinderIn (symbols_of table) s x) (ok_same (Binder.of_term a.0) b a.2) (type_sound table s ok.signature t a.0 a.1)
+      subst (λ (x : Binder). IsBinderIn (symbols_of table) s x) (ok_same (Binder.of_term a.0) b a.2)
+      (type_sound table s ok.signature t a.0 a.1)
 
   written_is : (t : RawType) (b : Binder) → of_written table s q front t ≡ Ok b → IsBinderIn (symbols_of table) s b
   written_is RawType.kind b h = quantified_type (symbols_of table) s q front b h
   written_is RawType.individual b h =
-      subst (λ (x : Binder). IsBinderIn (symbols_of table) s x) (ok_same (Binder.of_term individual) b h) (individual_in (symbols_of table) s)
+      subst (λ (x : Binder). IsBinderIn (symbols_of table) s x) (ok_same (Binder.of_term individual) b h)
+      (individual_in (symbols_of table) s)
   written_is RawType.truth b h = absurd (no_ok _ b h)
   written_is (RawType.variable x) b h = written_type (RawType.variable x) b h
   written_is (RawType.named c ts) b h = written_type (RawType.named c ts) b h
 
-  pub binder_is : (o : Option RawType) (b : Binder) → binder_in table s q front o ≡ Ok b → IsBinderIn (symbols_of table) s b
+  pub binder_is : (o : Option RawType) (b : Binder) → binder_in table s q front o ≡ Ok b
+      → IsBinderIn (symbols_of table) s b
   binder_is None b h =
-      subst (λ (x : Binder). IsBinderIn (symbols_of table) s x) (ok_same (Binder.of_term individual) b h) (individual_in (symbols_of table) s)
+      subst (λ (x : Binder). IsBinderIn (symbols_of table) s x) (ok_same (Binder.of_term individual) b h)
+      (individual_in (symbols_of table) s)
   binder_is (Some t) b h = written_is t b h
 
-left_is : (symbols : List Symbol) (s : Scope) (x : Expression) (t : Ty) → IsExpressionIn symbols s x → left_side x ≡ Ok t → IsTypeIn symbols s t
+left_is : (symbols : List Symbol) (s : Scope) (x : Expression) (t : Ty) → IsExpressionIn symbols s x
+    → left_side x ≡ Ok t → IsTypeIn symbols s t
 left_is symbols s (Expression.term u a) t ok h = subst (λ (y : Ty). IsTypeIn symbols s y) (ok_same u t h) ok.type
 left_is symbols s (Expression.atom p ts us) t ok h = absurd (no_ok _ t h)
 
-equality_sound : (table : Table) (s : Scope) (l r : RawTerm) (e : Typed Form) → IsTable table → IsScope (symbols_of table) s
+equality_sound : (table : Table) (s : Scope) (l r : RawTerm) (e : Typed Form) → IsTable table
+    → IsScope (symbols_of table) s
     → equality_in table s l r ≡ Ok e → IsFormSound s table e
 equality_sound table s l r e ok scope h =
     let a = both_ok (expression_in table s Place.term l) _ e h in
@@ -77,9 +87,11 @@ equality_sound table s l r e ok scope h =
     let y = d.0 in
     let g = both_ok (wanted t y.tree) _ e d.2 in
     let i = expression_sound table s Place.term l x ok scope a.1 in
-    let j = expression_sound x.table s Place.term r y i.grown.good (scope_kept (symbols_of table) (symbols_of x.table) s i.grown.grows scope) d.1 in
+    let j = expression_sound x.table s Place.term r y i.grown.good
+    (scope_kept (symbols_of table) (symbols_of x.table) s i.grown.grows scope) d.1 in
     let grows = j.grown.grows in
-    let type = type_in_kept (symbols_of x.table) (symbols_of y.table) s t grows (left_is (symbols_of x.table) s x.tree t i.expression b.1) in
+    let type = type_in_kept (symbols_of x.table) (symbols_of y.table) s t grows
+    (left_is (symbols_of x.table) s x.tree t i.expression b.1) in
     let left = wanted_is (symbols_of x.table) s t x.tree c.0 i.expression c.1 in
     let right = wanted_is (symbols_of y.table) s t y.tree g.0 j.expression g.1 in
     let typed = term_kept (symbols_of x.table) (symbols_of y.table) grows c.0 t left.typed in
@@ -89,11 +101,16 @@ equality_sound table s l r e ok scope h =
       form = record {
         typed = WellTyped.equal type.typed typed right.typed;
         each = (type.each, left.each, right.each);
-        closed = (type_closed (symbols_of y.table) 0 t type.typed, term_closed (symbols_of y.table) 0 c.0 t typed, term_closed (symbols_of y.table) 0 g.0 t right.typed);
+        closed = (
+          type_closed (symbols_of y.table) 0 t type.typed,
+          term_closed (symbols_of y.table) 0 c.0 t typed,
+          term_closed (symbols_of y.table) 0 g.0 t right.typed,
+        );
       };
     })
 
-pub form_sound : (table : Table) (s : Scope) (front : Bool) (f : RawForm) (e : Typed Form) → IsTable table → IsScope (symbols_of table) s
+pub form_sound : (table : Table) (s : Scope) (front : Bool) (f : RawForm) (e : Typed Form) → IsTable table
+    → IsScope (symbols_of table) s
     → form_in table s front f ≡ Ok e → IsFormSound s table e
 form_sound table s front RawForm.truth e ok scope h =
     subst (λ (z : Typed Form). IsFormSound s table z) (ok_same (form_of Form.truth table) e h)
@@ -113,19 +130,29 @@ form_sound table s front (RawForm.negation f) e ok scope h =
     let a = both_ok (form_in table s false f) _ e h in
     let i = form_sound table s false f a.0 ok scope a.1 in
     subst (λ (z : Typed Form). IsFormSound s table z) (ok_same (form_of (Form.negation a.0.tree) a.0.table) e a.2)
-    (record { grown = i.grown; form = record { typed = WellTyped.negation i.form.typed; each = i.form.each; closed = i.form.closed } })
+    (record {
+      grown = i.grown;
+      form = record { typed = WellTyped.negation i.form.typed; each = i.form.each; closed = i.form.closed };
+    })
 form_sound table s front (RawForm.binary c f g) e ok scope h =
     let a = both_ok (form_in table s false f) _ e h in
     let x = a.0 in
     let b = both_ok (form_in x.table s false g) _ e a.2 in
     let y = b.0 in
     let i = form_sound table s false f x ok scope a.1 in
-    let j = form_sound x.table s false g y i.grown.good (scope_kept (symbols_of table) (symbols_of x.table) s i.grown.grows scope) b.1 in
+    let j = form_sound x.table s false g y i.grown.good
+    (scope_kept (symbols_of table) (symbols_of x.table) s i.grown.grows scope) b.1 in
     let k = form_in_kept (symbols_of x.table) (symbols_of y.table) s x.tree j.grown.grows i.form in
-    subst (λ (z : Typed Form). IsFormSound s table z) (ok_same (form_of (Form.binary (connective_of c) x.tree y.tree) y.table) e b.2)
+    subst (λ (z : Typed Form). IsFormSound s table z)
+    (ok_same (form_of (Form.binary (connective_of c) x.tree y.tree) y.table) e b.2)
     (record {
       grown = record { good = j.grown.good; grows = joined i.grown.grows j.grown.grows };
-      form = record { typed = WellTyped.binary k.typed j.form.typed; each = (k.each, j.form.each); closed = (k.closed, j.form.closed) };
+      form =
+          record {
+            typed = WellTyped.binary k.typed j.form.typed;
+            each = (k.each, j.form.each);
+            closed = (k.closed, j.form.closed);
+          };
     })
 form_sound table s front (RawForm.quantified q v f) e ok scope h =
     let a = both_ok (binder_in table s q front v.type) _ e h in

@@ -24,7 +24,8 @@ mutual
   closed_type j n (Ty.bound i) = refl
   closed_type j n (Ty.param m) = go (m == n) refl
     where
-      go : (b : Bool) → (m == n) ≡ b → indexed (suc (j + n)) (if b then Ty.bound j else Ty.param m) ≡ Ty.bound (suc (j + n) - suc m)
+      go : (b : Bool) → (m == n) ≡ b
+          → indexed (suc (j + n)) (if b then Ty.bound j else Ty.param m) ≡ Ty.bound (suc (j + n) - suc m)
       go true e = let i : m ≡ n = eqb-true m n e in let k : suc (j + n) - suc m ≡ j = omega arith in ap Ty.bound (sym k)
       go false e = refl
   closed_type j n (Ty.meta m) = refl
@@ -39,13 +40,17 @@ mutual
   closed_term j n (Term.bound i) = refl
   closed_term j n (Term.eps m t) = go (m == n) refl
     where
-      go : (b : Bool) → (m == n) ≡ b → indexed_term (suc (j + n)) (if b then Term.bound j else Term.eps m (close_type j n t)) ≡ Term.bound (suc (j + n) - suc m)
-      go true e = let i : m ≡ n = eqb-true m n e in let k : suc (j + n) - suc m ≡ j = omega arith in ap Term.bound (sym k)
+      go : (b : Bool) → (m == n) ≡ b
+          → indexed_term (suc (j + n)) (if b then Term.bound j else Term.eps m (close_type j n t))
+          ≡ Term.bound (suc (j + n) - suc m)
+      go true e =
+          let i : m ≡ n = eqb-true m n e in let k : suc (j + n) - suc m ≡ j = omega arith in ap Term.bound (sym k)
       go false e = refl
   closed_term j n (Term.meta m t) = ap (Term.meta m) (closed_type j n t)
   closed_term j n (Term.app f ts us) = cc (closed_types j n ts, closed_terms j n us)
 
-  closed_terms : (j n : ℕ) (us : Terms) → indexed_terms (suc (j + n)) (close_terms j n us) ≡ indexed_terms (suc (j + n)) us
+  closed_terms : (j n : ℕ) (us : Terms)
+      → indexed_terms (suc (j + n)) (close_terms j n us) ≡ indexed_terms (suc (j + n)) us
   closed_terms j n Terms.none = refl
   closed_terms j n (Terms.more u us) = cc (closed_term j n u, closed_terms j n us)
 
@@ -88,7 +93,8 @@ pub indexed_form_free : (k : ℕ) (f : Form) → HasNoParameter f → indexed_fo
 indexed_form_free k Form.truth h = refl
 indexed_form_free k Form.falsity h = refl
 indexed_form_free k (Form.atom p ts us) h = cc (all_indexed_free k ts h.0, indexed_terms_free k us h.1)
-indexed_form_free k (Form.equal t a b) h = cc (indexed_free k t h.0, indexed_term_free k a h.1, indexed_term_free k b h.2)
+indexed_form_free k (Form.equal t a b) h =
+    cc (indexed_free k t h.0, indexed_term_free k a h.1, indexed_term_free k b h.2)
 indexed_form_free k (Form.negation f) h = ap Form.negation (indexed_form_free k f h)
 indexed_form_free k (Form.binary c f g) h = cc (indexed_form_free k f h.0, indexed_form_free k g h.1)
 indexed_form_free k (Form.quantified q t f) h = cc (indexed_free k t h.0, indexed_form_free (suc k) f h.1)
@@ -114,7 +120,8 @@ length_openings : (ts : Tys) → length (openings ts) ≡ how_many ts
 length_openings Tys.none = refl
 length_openings (Tys.more t ts) = omega (arith, length_openings ts)
 
-picked_step : (ts : Tys) (t : Ty) (i n : ℕ) → n ≡ how_many ts → IsClosedType 0 t → type_instance (openings ts) (Ty.bound i) ≡ picked ts i
+picked_step : (ts : Tys) (t : Ty) (i n : ℕ) → n ≡ how_many ts → IsClosedType 0 t
+    → type_instance (openings ts) (Ty.bound i) ≡ picked ts i
     → type_instance (openings ts) (if i == n then t else Ty.bound i) ≡ (if i == how_many ts then t else picked ts i)
 picked_step ts t i n e h r = rw e (go (i == how_many ts))
   where
@@ -124,7 +131,8 @@ picked_step ts t i n e h r = rw e (go (i == how_many ts))
 
 bound_instance : (ts : Tys) (i : ℕ) → AreClosedTypes 0 ts → type_instance (openings ts) (Ty.bound i) ≡ picked ts i
 bound_instance Tys.none i h = refl
-bound_instance (Tys.more t ts) i h = picked_step ts t i (length (openings ts)) (length_openings ts) h.0 (bound_instance ts i h.1)
+bound_instance (Tys.more t ts) i h =
+    picked_step ts t i (length (openings ts)) (length_openings ts) h.0 (bound_instance ts i h.1)
 
 param_instance : (os : List Opening) (n : ℕ) → type_instance os (Ty.param n) ≡ Ty.param n
 param_instance [] n = refl
@@ -142,7 +150,8 @@ none_instance : (os : List Opening) → types_instance os Tys.none ≡ Tys.none
 none_instance [] = refl
 none_instance (o ∷ os) = none_instance os
 
-more_instance : (os : List Opening) (u : Ty) (us : Tys) → types_instance os (Tys.more u us) ≡ Tys.more (type_instance os u) (types_instance os us)
+more_instance : (os : List Opening) (u : Ty) (us : Tys)
+    → types_instance os (Tys.more u us) ≡ Tys.more (type_instance os u) (types_instance os us)
 more_instance [] u us = refl
 more_instance (o ∷ os) u us = more_instance os (open_type (length os) o u) (open_types (length os) o us)
 
@@ -155,7 +164,8 @@ mutual
 
   pub instances_filled : (ts us : Tys) → AreClosedTypes 0 ts → types_instance (openings ts) us ≡ all_filled ts us
   instances_filled ts Tys.none h = none_instance (openings ts)
-  instances_filled ts (Tys.more u us) h = more_instance (openings ts) u us ∙ cc (instance_filled ts u h, instances_filled ts us h)
+  instances_filled ts (Tys.more u us) h =
+      more_instance (openings ts) u us ∙ cc (instance_filled ts u h, instances_filled ts us h)
 
 -- a written type has no index
 binder_closed : (n : ℕ) (b : Binder) (u : Ty) → if_type n b ≡ Ok u → IsClosedType 0 u
@@ -177,12 +187,14 @@ mutual
       let b = both_ok (types_in table s ts) _ u a.2 in
       subst (λ (y : Ty). IsClosedType 0 y) (ok_same (Ty.con a.0 b.0) u b.2) (types_closed table s ts b.0 b.1)
 
-  types_closed : (table : Table) (s : Scope) (ts : RawTypes) (us : Tys) → types_in table s ts ≡ Ok us → AreClosedTypes 0 us
+  types_closed : (table : Table) (s : Scope) (ts : RawTypes) (us : Tys) → types_in table s ts ≡ Ok us
+      → AreClosedTypes 0 us
   types_closed table s RawTypes.none us h = subst (λ (y : Tys). AreClosedTypes 0 y) (ok_same Tys.none us h) tt
   types_closed table s (RawTypes.more t ts) us h =
       let a = both_ok (type_in table s t) _ us h in
       let b = both_ok (types_in table s ts) _ us a.2 in
-      subst (λ (y : Tys). AreClosedTypes 0 y) (ok_same (Tys.more a.0 b.0) us b.2) (type_closed table s t a.0 a.1, types_closed table s ts b.0 b.1)
+      subst (λ (y : Tys). AreClosedTypes 0 y) (ok_same (Tys.more a.0 b.0) us b.2)
+      (type_closed table s t a.0 a.1, types_closed table s ts b.0 b.1)
 
 abbrev shown_expression : ℕ → Outcome (Typed Expression) → Outcome (Typed Expression)
 shown_expression k r = r >>= λ x. gives x.table (indexed_expression k x.tree)
@@ -193,11 +205,13 @@ shown_terms k r = r >>= λ x. gives x.table (indexed_terms k x.tree)
 abbrev pub shown_form : ℕ → Outcome (Typed Form) → Outcome (Typed Form)
 shown_form k r = r >>= λ x. gives x.table (indexed_form k x.tree)
 
-variable_shown : (table : Table) (k : ℕ) (o : Option Bound) → unchanged table (indexed_variable k o) ≡ shown_expression k (unchanged table (term_variable o))
+variable_shown : (table : Table) (k : ℕ) (o : Option Bound)
+    → unchanged table (indexed_variable k o) ≡ shown_expression k (unchanged table (term_variable o))
 variable_shown table k None = refl
 variable_shown table k (Some b) = go b.binder
   where
-    go : (x : Binder) → unchanged table (if_indexed_term k b.number x) ≡ shown_expression k (unchanged table (if_term b.number x))
+    go : (x : Binder)
+        → unchanged table (if_indexed_term k b.number x) ≡ shown_expression k (unchanged table (if_term b.number x))
     go Binder.of_type = refl
     go (Binder.of_term t) = refl
 
@@ -207,7 +221,8 @@ applied_shown k f ts us Sense.constructor h = refl
 applied_shown k f ts us Sense.predicate h = refl
 applied_shown k f ts us (Sense.function r) h = rw (instance_filled ts r h) refl
 
-wanted_shown : (k : ℕ) (w : Ty) (x : Expression) → wanted w (indexed_expression k x) ≡ (wanted w x >>= λ a. Ok (indexed_term k a))
+wanted_shown : (k : ℕ) (w : Ty) (x : Expression)
+    → wanted w (indexed_expression k x) ≡ (wanted w x >>= λ a. Ok (indexed_term k a))
 wanted_shown k w (Expression.term t u) = go (same_type t w)
   where
     go : (b : Bool) → (if b then Ok (indexed_term k u) else Err (Fault.mismatch (found_type w) (found_type t)))
@@ -219,13 +234,15 @@ wanted_shown k w (Expression.atom p ts us) = refl
 abbrev rest_of_terms : ℕ → (Table → Outcome (Typed Terms)) → Ty → Typed Expression → Outcome (Typed Terms)
 rest_of_terms k next w x = wanted w x.tree >>= λ a. next x.table >>= λ vs. gives vs.table (Terms.more a vs.tree)
 
-more_shown : (k : ℕ) (w : Ty) (at inside : Table → Outcome (Typed Terms)) → ((t : Table) → at t ≡ shown_terms k (inside t)) → (r : Outcome (Typed Expression))
+more_shown : (k : ℕ) (w : Ty) (at inside : Table → Outcome (Typed Terms))
+    → ((t : Table) → at t ≡ shown_terms k (inside t)) → (r : Outcome (Typed Expression))
     → (shown_expression k r >>= rest_of_terms k at w) ≡ shown_terms k (r >>= rest_of_terms k inside w)
 more_shown k w at inside h (Err e) = refl
 more_shown k w at inside h (Ok x) = rw (wanted_shown k w x.tree) (go (wanted w x.tree))
   where
     last : (a : Term) (r : Outcome (Typed Terms))
-        → (shown_terms k r >>= λ vs. gives vs.table (Terms.more (indexed_term k a) vs.tree)) ≡ shown_terms k (r >>= λ vs. gives vs.table (Terms.more a vs.tree))
+        → (shown_terms k r >>= λ vs. gives vs.table (Terms.more (indexed_term k a) vs.tree))
+        ≡ shown_terms k (r >>= λ vs. gives vs.table (Terms.more a vs.tree))
     last a (Ok vs) = refl
     last a (Err e) = refl
 
@@ -249,13 +266,15 @@ head_shown k d ts (Ok vs) h = rw (applied_shown k d.number ts vs.tree d.symbol.s
 abbrev shown_symbol : Outcome Use → Outcome (Typed Taken)
 shown_symbol r = r >>= λ d. gives d.table (taken_of d.found)
 
-if_shown : (table : Table) (d : Numbered) (sense : Sense) → unchanged table (taken_if d sense) ≡ shown_symbol (if_symbol table d sense)
+if_shown : (table : Table) (d : Numbered) (sense : Sense)
+    → unchanged table (taken_if d sense) ≡ shown_symbol (if_symbol table d sense)
 if_shown table d Sense.constructor = refl
 if_shown table d Sense.predicate = refl
 if_shown table d (Sense.function r) = refl
 
 with_shown : (table : Table) (n : ℕ) (d : Numbered)
-    → unchanged table (taken_with n d) ≡ shown_symbol (if n == arity d.symbol then if_symbol table d d.symbol.sense else Err Fault.arity)
+    → unchanged table (taken_with n d)
+    ≡ shown_symbol (if n == arity d.symbol then if_symbol table d d.symbol.sense else Err Fault.arity)
 with_shown table n d = go (n == arity d.symbol)
   where
     go : (b : Bool) → unchanged table (if b then taken_if d d.symbol.sense else Err Fault.arity)
@@ -263,30 +282,47 @@ with_shown table n d = go (n == arity d.symbol)
     go true = if_shown table d d.symbol.sense
     go false = refl
 
-new_shown : (table : Table) (place : Place) (x : Name) (n : ℕ) → new_taken table place x n ≡ shown_symbol (new_symbol table false (undeclared place x n))
+new_shown : (table : Table) (place : Place) (x : Name) (n : ℕ)
+    → new_taken table place x n ≡ shown_symbol (new_symbol table false (undeclared place x n))
 new_shown table place x n = go (nat_lt (length table) most_symbols)
   where
     go : (b : Bool)
-        → (if b then gives (with_entry table false (undeclared place x n)) (taken_of (record { number = suc (length table); symbol = undeclared place x n })) else Err Fault.too_many_symbols)
-        ≡ shown_symbol (if b then Ok (record { found = record { number = suc (length table); symbol = undeclared place x n }; table = with_entry table false (undeclared place x n) }) else Err Fault.too_many_symbols)
+        → (if b
+        then gives (with_entry table false (undeclared place x n))
+        (taken_of (record { number = suc (length table); symbol = undeclared place x n }))
+        else Err Fault.too_many_symbols)
+        ≡ shown_symbol
+        (if b then Ok
+        (record {
+          found = record {
+            number = suc (length table);
+            symbol = undeclared place x n;
+          };
+          table = with_entry table false (undeclared place x n);
+        }) else Err Fault.too_many_symbols)
     go true = refl
     go false = refl
 
-used_shown : (table : Table) (place : Place) (x : Name) (n : ℕ) (o : Option Numbered) → used_taken table place x n o ≡ shown_symbol (used_or_new table place x n o)
+used_shown : (table : Table) (place : Place) (x : Name) (n : ℕ) (o : Option Numbered)
+    → used_taken table place x n o ≡ shown_symbol (used_or_new table place x n o)
 used_shown table place x n (Some d) = if_shown table d d.symbol.sense
 used_shown table place x n None = new_shown table place x n
 
-declared_shown : (table : Table) (place : Place) (x : Name) (n : ℕ) (o : Option Numbered) → declared_taken table place x n o ≡ shown_symbol (declared_or_used table place x n o)
+declared_shown : (table : Table) (place : Place) (x : Name) (n : ℕ) (o : Option Numbered)
+    → declared_taken table place x n o ≡ shown_symbol (declared_or_used table place x n o)
 declared_shown table place x n (Some d) = with_shown table n d
 declared_shown table place x n None = used_shown table place x n (used table x n)
 
-symbol_shown : (table : Table) (place : Place) (x : Name) (n : ℕ) → symbol_at table place x n ≡ shown_symbol (symbol_for table place x n)
+symbol_shown : (table : Table) (place : Place) (x : Name) (n : ℕ)
+    → symbol_at table place x n ≡ shown_symbol (symbol_for table place x n)
 symbol_shown table place x n = declared_shown table place x n (declared table x)
 
 named_shown : (table : Table) (s : Scope) (place : Place) (f : Name) (us : RawTerms)
     → ((t : Table) (n : ℕ) (ws : Tys) → terms_at t s n ws us ≡ shown_terms (length s) (terms_in t s n ws us))
-    → expression_at table s place (RawTerm.named f us) ≡ shown_expression (length s) (expression_in table s place (RawTerm.named f us))
-named_shown table s place f us h = rw (symbol_shown table place f (number_of_terms us)) (go (symbol_for table place f (number_of_terms us)))
+    → expression_at table s place (RawTerm.named f us)
+    ≡ shown_expression (length s) (expression_in table s place (RawTerm.named f us))
+named_shown table s place f us h =
+    rw (symbol_shown table place f (number_of_terms us)) (go (symbol_for table place f (number_of_terms us)))
   where
     at_types : (d : Use) (r : Outcome Tys) → ((ts : Tys) → r ≡ Ok ts → AreClosedTypes 0 ts)
         → ((r >>= λ ts. gives d.table (head_of (taken_of d.found) ts)) >>= λ x.
@@ -298,11 +334,16 @@ named_shown table s place f us h = rw (symbol_shown table place f (number_of_ter
     at_types d (Err e) closed = refl
     at_types d (Ok ts) closed =
         let c = closed ts refl in
-        rw (← instances_filled ts d.found.symbol.arguments c, h d.table d.found.symbol.types (argument_types d.found.symbol ts))
-        (head_shown (length s) d.found ts (terms_in d.table s d.found.symbol.types (argument_types d.found.symbol ts) us) c)
+        rw (
+          ← instances_filled ts d.found.symbol.arguments c,
+          h d.table d.found.symbol.types (argument_types d.found.symbol ts),
+        )
+        (head_shown (length s) d.found ts
+        (terms_in d.table s d.found.symbol.types (argument_types d.found.symbol ts) us) c)
 
     go : (r : Outcome Use)
-        → ((shown_symbol r >>= λ d. types_in d.table s (as_types (first d.tree.types us)) >>= λ ts. gives d.table (head_of d.tree ts)) >>= λ x.
+        → ((shown_symbol r >>= λ d. types_in d.table s (as_types (first d.tree.types us)) >>= λ ts.
+        gives d.table (head_of d.tree ts)) >>= λ x.
         terms_at x.table s x.tree.skipped x.tree.wanted_types us >>= λ vs.
         gives vs.table (applied_at (length s) x.tree.number x.tree.types vs.tree x.tree.sense))
         ≡ shown_expression (length s) (r >>= λ d.
@@ -320,7 +361,8 @@ mutual
   expression_shown table s place RawTerm.individual = refl
   expression_shown table s place RawTerm.truth = refl
   expression_shown table s place (RawTerm.variable x) = variable_shown table (length s) (look_up s x)
-  expression_shown table s place (RawTerm.named f us) = named_shown table s place f us (λ t n ws. terms_shown t s n ws us)
+  expression_shown table s place (RawTerm.named f us) =
+      named_shown table s place f us (λ t n ws. terms_shown t s n ws us)
 
   pub terms_shown : (table : Table) (s : Scope) (n : ℕ) (ws : Tys) (us : RawTerms)
       → terms_at table s n ws us ≡ shown_terms (length s) (terms_in table s n ws us)
@@ -329,33 +371,43 @@ mutual
   terms_shown table s zero Tys.none (RawTerms.more u us) = refl
   terms_shown table s zero (Tys.more w ws) (RawTerms.more u us) =
       rw (expression_shown table s Place.term u)
-      (more_shown (length s) w (λ t. terms_at t s zero ws us) (λ t. terms_in t s zero ws us) (λ t. terms_shown t s zero ws us) (expression_in table s Place.term u))
+      (more_shown (length s) w (λ t. terms_at t s zero ws us) (λ t. terms_in t s zero ws us)
+      (λ t. terms_shown t s zero ws us) (expression_in table s Place.term u))
 
-left_shown : (k : ℕ) (at inside : Table → Outcome (Typed Expression)) → ((t : Table) → at t ≡ shown_expression k (inside t)) → (r : Outcome (Typed Expression))
+left_shown : (k : ℕ) (at inside : Table → Outcome (Typed Expression))
+    → ((t : Table) → at t ≡ shown_expression k (inside t)) → (r : Outcome (Typed Expression))
     → ((shown_expression k r >>= λ x. unchanged x.table (side_of x.tree)) >>= λ l.
     (at l.table >>= λ y. unchanged y.table (wanted l.tree.type y.tree)) >>= λ b.
     gives b.table (Form.equal (indexed k l.tree.type) l.tree.term b.tree))
-    ≡ shown_form k (r >>= λ x. left_side x.tree >>= λ t. wanted t x.tree >>= λ a. inside x.table >>= λ y. wanted t y.tree >>= λ b. gives y.table (Form.equal t a b))
+    ≡ shown_form k
+    (r >>= λ x. left_side x.tree >>= λ t. wanted t x.tree >>= λ a. inside x.table >>= λ y. wanted t y.tree >>= λ b.
+    gives y.table (Form.equal t a b))
 left_shown k at inside h (Err e) = refl
 left_shown k at inside h (Ok x) = by x.tree
   where
     last : (t : Ty) (a : Term) (table : Table) (r : Outcome Term)
-        → (unchanged table (r >>= λ b. Ok (indexed_term k b)) >>= λ b. gives b.table (Form.equal (indexed k t) (indexed_term k a) b.tree))
+        → (unchanged table (r >>= λ b. Ok (indexed_term k b)) >>= λ b.
+        gives b.table (Form.equal (indexed k t) (indexed_term k a) b.tree))
         ≡ shown_form k (r >>= λ b. gives table (Form.equal t a b))
     last t a table (Ok b) = refl
     last t a table (Err e) = refl
 
     right : (t : Ty) (a : Term) (r : Outcome (Typed Expression))
-        → ((shown_expression k r >>= λ y. unchanged y.table (wanted t y.tree)) >>= λ b. gives b.table (Form.equal (indexed k t) (indexed_term k a) b.tree))
+        → ((shown_expression k r >>= λ y. unchanged y.table (wanted t y.tree)) >>= λ b.
+        gives b.table (Form.equal (indexed k t) (indexed_term k a) b.tree))
         ≡ shown_form k (r >>= λ y. wanted t y.tree >>= λ b. gives y.table (Form.equal t a b))
     right t a (Err e) = refl
     right t a (Ok y) = rw (wanted_shown k t y.tree) (last t a y.table (wanted t y.tree))
 
     of_side : (t : Ty) (a : Term) (b : Bool)
-        → ((unchanged x.table ((if b then Ok (indexed_term k a) else Err (Fault.mismatch (found_type t) (found_type t))) >>= λ c. Ok (side_with t c))) >>= λ l.
+        → ((unchanged x.table
+        ((if b then Ok (indexed_term k a) else Err (Fault.mismatch (found_type t) (found_type t))) >>= λ c.
+        Ok (side_with t c))) >>= λ l.
         (at l.table >>= λ y. unchanged y.table (wanted l.tree.type y.tree)) >>= λ c.
         gives c.table (Form.equal (indexed k l.tree.type) l.tree.term c.tree))
-        ≡ shown_form k ((if b then Ok a else Err (Fault.mismatch (found_type t) (found_type t))) >>= λ d. inside x.table >>= λ y. wanted t y.tree >>= λ c. gives y.table (Form.equal t d c))
+        ≡ shown_form k
+        ((if b then Ok a else Err (Fault.mismatch (found_type t) (found_type t))) >>= λ d. inside x.table >>= λ y.
+        wanted t y.tree >>= λ c. gives y.table (Form.equal t d c))
     of_side t a true = rw (h x.table) (right t a (inside x.table))
     of_side t a false = refl
 
@@ -363,35 +415,44 @@ left_shown k at inside h (Ok x) = by x.tree
         → ((unchanged x.table (side_of (indexed_expression k tree))) >>= λ l.
         (at l.table >>= λ y. unchanged y.table (wanted l.tree.type y.tree)) >>= λ b.
         gives b.table (Form.equal (indexed k l.tree.type) l.tree.term b.tree))
-        ≡ shown_form k (left_side tree >>= λ t. wanted t tree >>= λ a. inside x.table >>= λ y. wanted t y.tree >>= λ b. gives y.table (Form.equal t a b))
+        ≡ shown_form k
+        (left_side tree >>= λ t. wanted t tree >>= λ a. inside x.table >>= λ y. wanted t y.tree >>= λ b.
+        gives y.table (Form.equal t a b))
     by (Expression.term t a) = of_side t a (same_type t t)
     by (Expression.atom p ts us) = refl
 
-equality_shown : (table : Table) (s : Scope) (left right : RawTerm) → equality_at table s left right ≡ shown_form (length s) (equality_in table s left right)
+equality_shown : (table : Table) (s : Scope) (left right : RawTerm)
+    → equality_at table s left right ≡ shown_form (length s) (equality_in table s left right)
 equality_shown table s left right =
     rw (expression_shown table s Place.term left)
     (left_shown (length s) (λ t. expression_at t s Place.term right) (λ t. expression_in t s Place.term right)
     (λ t. expression_shown t s Place.term right) (expression_in table s Place.term left))
 
 plain_shown : (table : Table) (s : Scope) (u : RawTerm)
-    → plain_at table s u ≡ shown_form (length s) (expression_in table s Place.formula u >>= λ x. unchanged x.table (as_formula x.tree))
+    → plain_at table s u
+    ≡ shown_form (length s) (expression_in table s Place.formula u >>= λ x. unchanged x.table (as_formula x.tree))
 plain_shown table s u = rw (expression_shown table s Place.formula u) (go (expression_in table s Place.formula u))
   where
-    by : (t : Table) (x : Expression) → unchanged t (as_formula (indexed_expression (length s) x)) ≡ shown_form (length s) (unchanged t (as_formula x))
+    by : (t : Table) (x : Expression)
+        → unchanged t (as_formula (indexed_expression (length s) x))
+        ≡ shown_form (length s) (unchanged t (as_formula x))
     by t (Expression.term w a) = refl
     by t (Expression.atom p ts us) = refl
 
     go : (r : Outcome (Typed Expression))
-        → (shown_expression (length s) r >>= λ x. unchanged x.table (as_formula x.tree)) ≡ shown_form (length s) (r >>= λ x. unchanged x.table (as_formula x.tree))
+        → (shown_expression (length s) r >>= λ x. unchanged x.table (as_formula x.tree))
+        ≡ shown_form (length s) (r >>= λ x. unchanged x.table (as_formula x.tree))
     go (Err e) = refl
     go (Ok x) = by x.table x.tree
 
 negation_shown : (k : ℕ) (r : Outcome (Typed Form))
-    → (shown_form k r >>= λ g. gives g.table (Form.negation g.tree)) ≡ shown_form k (r >>= λ g. gives g.table (Form.negation g.tree))
+    → (shown_form k r >>= λ g. gives g.table (Form.negation g.tree))
+    ≡ shown_form k (r >>= λ g. gives g.table (Form.negation g.tree))
 negation_shown k (Ok g) = refl
 negation_shown k (Err e) = refl
 
-binary_shown : (k : ℕ) (c : Connective) (at inside : Table → Outcome (Typed Form)) → ((t : Table) → at t ≡ shown_form k (inside t)) → (r : Outcome (Typed Form))
+binary_shown : (k : ℕ) (c : Connective) (at inside : Table → Outcome (Typed Form))
+    → ((t : Table) → at t ≡ shown_form k (inside t)) → (r : Outcome (Typed Form))
     → (shown_form k r >>= λ a. at a.table >>= λ b. gives b.table (Form.binary c a.tree b.tree))
     ≡ shown_form k (r >>= λ a. inside a.table >>= λ b. gives b.table (Form.binary c a.tree b.tree))
 binary_shown k c at inside h (Err e) = refl
@@ -403,31 +464,45 @@ binary_shown k c at inside h (Ok a) = rw (h a.table) (go (inside a.table))
     go (Ok b) = refl
     go (Err e) = refl
 
-bind_shown : (k : ℕ) (q : Quantifier) (b : Binder) (f : Form) → bind_at q (indexed_binder k b) (indexed_form (suc k) f) ≡ indexed_form k (bind q b k f)
+bind_shown : (k : ℕ) (q : Quantifier) (b : Binder) (f : Form)
+    → bind_at q (indexed_binder k b) (indexed_form (suc k) f) ≡ indexed_form k (bind q b k f)
 bind_shown k q Binder.of_type f = ap Form.for_all_types (sym (closed_form 0 k (suc k) f (omega arith)))
-bind_shown k q (Binder.of_term t) f = ap (Form.quantified (quantifier_of q) (indexed k t)) (sym (closed_form 0 k (suc k) f (omega arith)))
+bind_shown k q (Binder.of_term t) f =
+    ap (Form.quantified (quantifier_of q) (indexed k t)) (sym (closed_form 0 k (suc k) f (omega arith)))
 
 quantified_shown : (k : ℕ) (q : Quantifier) (b : Binder) (r : Outcome (Typed Form))
-    → (shown_form (suc k) r >>= λ g. gives g.table (bind_at q (indexed_binder k b) g.tree)) ≡ shown_form k (r >>= λ g. gives g.table (bind q b k g.tree))
+    → (shown_form (suc k) r >>= λ g. gives g.table (bind_at q (indexed_binder k b) g.tree))
+    ≡ shown_form k (r >>= λ g. gives g.table (bind q b k g.tree))
 quantified_shown k q b (Ok g) = rw (bind_shown k q b g.tree) refl
 quantified_shown k q b (Err e) = refl
 
-pub form_shown : (table : Table) (s : Scope) (front : Bool) (f : RawForm) → form_at table s front f ≡ shown_form (length s) (form_in table s front f)
+pub form_shown : (table : Table) (s : Scope) (front : Bool) (f : RawForm)
+    → form_at table s front f ≡ shown_form (length s) (form_in table s front f)
 form_shown table s front RawForm.truth = refl
 form_shown table s front RawForm.falsity = refl
 form_shown table s front (RawForm.plain u) = plain_shown table s u
 form_shown table s front (RawForm.equal a b) = equality_shown table s a b
-form_shown table s front (RawForm.negation f) = rw (form_shown table s false f) (negation_shown (length s) (form_in table s false f))
+form_shown table s front (RawForm.negation f) =
+    rw (form_shown table s false f) (negation_shown (length s) (form_in table s false f))
 form_shown table s front (RawForm.binary c f g) =
     rw (form_shown table s false f)
-    (binary_shown (length s) (connective_of c) (λ t. form_at t s false g) (λ t. form_in t s false g) (λ t. form_shown t s false g) (form_in table s false f))
+    (binary_shown (length s) (connective_of c) (λ t. form_at t s false g) (λ t. form_in t s false g)
+    (λ t. form_shown t s false g) (form_in table s false f))
 form_shown table s front (RawForm.quantified q v f) =
-    go (binder_in table s q front v.type) (λ b. form_shown table (record { name = v.name; binder = b } ∷ s) (front && is_universal q) f)
+    go (binder_in table s q front v.type)
+    (λ b. form_shown table (record { name = v.name; binder = b } ∷ s) (front && is_universal q) f)
   where
     go : (r : Outcome Binder)
         → ((b : Binder) → form_at table (record { name = v.name; binder = b } ∷ s) (front && is_universal q) f
-        ≡ shown_form (suc (length s)) (form_in table (record { name = v.name; binder = b } ∷ s) (front && is_universal q) f))
-        → (r >>= λ b. form_at table (record { name = v.name; binder = b } ∷ s) (front && is_universal q) f >>= λ g. gives g.table (bind_at q (indexed_binder (length s) b) g.tree))
-        ≡ shown_form (length s) (r >>= λ b. form_in table (record { name = v.name; binder = b } ∷ s) (front && is_universal q) f >>= λ g. gives g.table (bind q b (length s) g.tree))
+        ≡ shown_form (suc (length s))
+        (form_in table (record { name = v.name; binder = b } ∷ s) (front && is_universal q) f))
+        → (r >>= λ b. form_at table (record { name = v.name; binder = b } ∷ s) (front && is_universal q) f >>= λ g.
+        gives g.table (bind_at q (indexed_binder (length s) b) g.tree))
+        ≡ shown_form (length s)
+        (r >>= λ b. form_in table (record { name = v.name; binder = b } ∷ s) (front && is_universal q) f >>= λ g.
+        gives g.table (bind q b (length s) g.tree))
     go (Err e) h = refl
-    go (Ok b) h = rw (h b) (quantified_shown (length s) q b (form_in table (record { name = v.name; binder = b } ∷ s) (front && is_universal q) f))
+    go (Ok b) h =
+        rw (h b)
+        (quantified_shown (length s) q b
+        (form_in table (record { name = v.name; binder = b } ∷ s) (front && is_universal q) f))

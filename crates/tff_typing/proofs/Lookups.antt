@@ -25,7 +25,8 @@ binder_below (v ∷ vs) n b h = go (n == length vs) refl (λ i. binder_below vs 
     go false e below h = let l : n < length vs = below h in omega arith
 
 -- a binder below stays what it is under one more
-pub binder_kept : (v : Variable) (s : Scope) (n : ℕ) (b : Binder) → binder_of s n ≡ Some b → binder_of (v ∷ s) n ≡ Some b
+pub binder_kept : (v : Variable) (s : Scope) (n : ℕ) (b : Binder) → binder_of s n ≡ Some b
+    → binder_of (v ∷ s) n ≡ Some b
 binder_kept v s n b h =
     let l : n < length s = binder_below s n b h in
     let e : (n == length s) ≡ false = ne_eqb n (length s) (λ i. omega arith) in
@@ -62,7 +63,8 @@ pub record Stands (k : ℕ) (test : Entry → Bool) (table : Table) (d : Numbere
 abbrev here_numbered : ℕ → Entry → Numbered
 here_numbered k e = record { number = k; symbol = e.symbol }
 
-pub first_found : (k : ℕ) (test : Entry → Bool) (table : Table) (d : Numbered) → first_from k test table ≡ Some d → Stands k test table d
+pub first_found : (k : ℕ) (test : Entry → Bool) (table : Table) (d : Numbered) → first_from k test table ≡ Some d
+    → Stands k test table d
 first_found k test [] d h = absurd (no_some d h)
 first_found k test (e ∷ es) d h = go (test e) refl (λ i. first_found (suc k) test es d i) h
   where
@@ -71,10 +73,24 @@ first_found k test (e ∷ es) d h = go (test e) refl (λ i. first_found (suc k) 
         → Stands k test (e ∷ es) d
     go true t later h =
         let i = some_same (here_numbered k e) d h in
-        record { at = 0; number = (let j : d.number ≡ k = ap (λ (y : Numbered). y.number) (sym i) in omega arith); symbol = ap (λ (y : Numbered). Some y.symbol) i; entry = e; passes = t; same = ap (λ (y : Numbered). y.symbol) i }
+        record {
+          at = 0;
+          number = (let j : d.number ≡ k = ap (λ (y : Numbered). y.number) (sym i) in omega arith);
+          symbol = ap (λ (y : Numbered). Some y.symbol) i;
+          entry = e;
+          passes = t;
+          same = ap (λ (y : Numbered). y.symbol) i;
+        }
     go false t later h =
         let r = later h in
-        record { at = suc r.at; number = omega (arith, r.number); symbol = r.symbol; entry = r.entry; passes = r.passes; same = r.same }
+        record {
+          at = suc r.at;
+          number = omega (arith, r.number);
+          symbol = r.symbol;
+          entry = r.entry;
+          passes = r.passes;
+          same = r.same;
+        }
 
 -- the symbol found in a table is that of its number
 pub found_at : (test : Entry → Bool) (table : Table) (d : Numbered) → first_from 1 test table ≡ Some d

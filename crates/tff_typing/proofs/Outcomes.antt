@@ -21,6 +21,7 @@ pub ok_same : {A : Type 0} (x y : A) → ok x ≡ Ok y → x ≡ y
 ok_same x y h = cc
 
 -- the test held where anything was given
-pub test_held : {A : Type 0} (b : Bool) (r : Outcome A) (e : Fault) (y : A) → (if b then r else Err e) ≡ Ok y → (b ≡ true) × (r ≡ Ok y)
+pub test_held : {A : Type 0} (b : Bool) (r : Outcome A) (e : Fault) (y : A) → (if b then r else Err e) ≡ Ok y
+    → (b ≡ true) × (r ≡ Ok y)
 test_held true r e y h = (refl, h)
 test_held false r e y h = absurd (no_ok e y h)

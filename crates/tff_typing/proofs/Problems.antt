@@ -42,17 +42,21 @@ pub record IsShallowSymbol (d : Symbol) : Type 0 where
   pub result : (r : Ty) → d.sense ≡ Sense.function r → type_depth r ≤ 201
   pub arguments : types_depth d.arguments ≤ 201
 
-added_shallow : (table : Table) (b : Bool) (d : Symbol) → IsShallowTable table → IsShallowSymbol d → IsShallowTable (with_entry table b d)
+added_shallow : (table : Table) (b : Bool) (d : Symbol) → IsShallowTable table → IsShallowSymbol d
+    → IsShallowTable (with_entry table b d)
 added_shallow table b d ok small = record { at = at; arguments = arguments }
   where
-    arguments : (m : ℕ) (e : Symbol) → nth (symbols_of (with_entry table b d)) m ≡ Some e → types_depth e.arguments ≤ 201
+    arguments : (m : ℕ) (e : Symbol) → nth (symbols_of (with_entry table b d)) m ≡ Some e
+        → types_depth e.arguments ≤ 201
     arguments m e h = let q = rw (symbols_more table b d) at h in go (in_more (symbols_of table) d m e q)
       where
         go : InMore (symbols_of table) d m e → types_depth e.arguments ≤ 201
         go (InMore.before l j) = ok.arguments m e j
-        go (InMore.last l j) = let k = ap (λ (y : Symbol). types_depth y.arguments) j in let s = small.arguments in omega arith
+        go (InMore.last l j) =
+            let k = ap (λ (y : Symbol). types_depth y.arguments) j in let s = small.arguments in omega arith
 
-    at : (m : ℕ) (e : Symbol) (r : Ty) → nth (symbols_of (with_entry table b d)) m ≡ Some e → e.sense ≡ Sense.function r → type_depth r ≤ 201
+    at : (m : ℕ) (e : Symbol) (r : Ty) → nth (symbols_of (with_entry table b d)) m ≡ Some e → e.sense ≡ Sense.function r
+        → type_depth r ≤ 201
     at m e r h i = let q = rw (symbols_more table b d) at h in go (in_more (symbols_of table) d m e q)
       where
         go : InMore (symbols_of table) d m e → type_depth r ≤ 201
@@ -65,43 +69,57 @@ no_constructor r h = cc
 no_predicate : (r : Ty) → Sense.predicate ≡ Sense.function r → ⊥
 no_predicate r h = cc
 
-constructor_shallow : (x : Name) (n : ℕ) (s : Scope) (ts : Tys) (d : Symbol) → constructor_of x n s ts ≡ Ok d → IsShallowSymbol d
+constructor_shallow : (x : Name) (n : ℕ) (s : Scope) (ts : Tys) (d : Symbol) → constructor_of x n s ts ≡ Ok d
+    → IsShallowSymbol d
 constructor_shallow x n [] Tys.none d h =
     let made : Symbol = record { name = x; types = n; arguments = Tys.none; sense = Sense.constructor } in
-    subst (λ (y : Symbol). IsShallowSymbol y) (ok_same made d h) (record { result = λ r e. absurd (no_constructor r e); arguments = omega arith })
+    subst (λ (y : Symbol). IsShallowSymbol y) (ok_same made d h)
+    (record { result = λ r e. absurd (no_constructor r e); arguments = omega arith })
 constructor_shallow x n [] (Tys.more t ts) d h = absurd (no_ok _ d h)
 constructor_shallow x n (v ∷ vs) ts d h = absurd (no_ok _ d h)
 
-function_shallow : (table : Table) (x : Name) (s : Scope) (ts : Tys) (t : RawType) (d : Symbol) → types_depth ts ≤ 201 → raw_type_depth t ≤ 201
+function_shallow : (table : Table) (x : Name) (s : Scope) (ts : Tys) (t : RawType) (d : Symbol) → types_depth ts ≤ 201
+    → raw_type_depth t ≤ 201
     → (type_in table s t >>= λ r. Ok (function_of x s ts r)) ≡ Ok d → IsShallowSymbol d
 function_shallow table x s ts t d m l h =
     let a = both_ok (type_in table s t) _ d h in
     let i = written_type_depth table s t a.0 a.1 in
     let j = indexed_depth (length s) a.0 in
     subst (λ (y : Symbol). IsShallowSymbol y) (ok_same (function_of x s ts a.0) d a.2)
-    (record { result = λ r e. (let k = ap type_depth (function_same (indexed (length s) a.0) r e) in omega arith); arguments = omega (arith, all_indexed_depth (length s) ts) })
+    (record {
+      result = λ r e. (let k = ap type_depth (function_same (indexed (length s) a.0) r e) in omega arith);
+      arguments = omega (arith, all_indexed_depth (length s) ts);
+    })
 
-result_shallow : (table : Table) (x : Name) (n : ℕ) (s : Scope) (ts : Tys) (t : RawType) (d : Symbol) → types_depth ts ≤ 201 → raw_type_depth t ≤ 201
+result_shallow : (table : Table) (x : Name) (n : ℕ) (s : Scope) (ts : Tys) (t : RawType) (d : Symbol)
+    → types_depth ts ≤ 201 → raw_type_depth t ≤ 201
     → with_result table x n s ts t ≡ Ok d → IsShallowSymbol d
 result_shallow table x n s ts RawType.kind d m l h = constructor_shallow x n s ts d h
 result_shallow table x n s ts RawType.truth d m l h =
-    subst (λ (y : Symbol). IsShallowSymbol y) (ok_same (predicate_of x s ts) d h) (record { result = λ r e. absurd (no_predicate r e); arguments = omega (arith, all_indexed_depth (length s) ts) })
+    subst (λ (y : Symbol). IsShallowSymbol y) (ok_same (predicate_of x s ts) d h)
+    (record { result = λ r e. absurd (no_predicate r e); arguments = omega (arith, all_indexed_depth (length s) ts) })
 result_shallow table x n s ts RawType.individual d m l h = function_shallow table x s ts RawType.individual d m l h
 result_shallow table x n s ts (RawType.variable y) d m l h = function_shallow table x s ts (RawType.variable y) d m l h
 result_shallow table x n s ts (RawType.named c us) d m l h = function_shallow table x s ts (RawType.named c us) d m l h
 
 -- the types of a declaration's arguments are no deeper than they are written
-arguments_depth : (table : Table) (s : Scope) (kinds : Bool) (ts : RawTypes) (us : Tys) → arguments_in table s kinds ts ≡ Ok us → types_depth us ≤ raw_types_depth ts
-arguments_depth table s kinds RawTypes.none us h = subst (λ (y : Tys). types_depth y ≤ 0) (ok_same Tys.none us h) (omega arith)
-arguments_depth table s kinds (RawTypes.more t ts) us h = go (is_kind t) (λ vs e. arguments_depth table s kinds ts vs e) h
+arguments_depth : (table : Table) (s : Scope) (kinds : Bool) (ts : RawTypes) (us : Tys)
+    → arguments_in table s kinds ts ≡ Ok us → types_depth us ≤ raw_types_depth ts
+arguments_depth table s kinds RawTypes.none us h =
+    subst (λ (y : Tys). types_depth y ≤ 0) (ok_same Tys.none us h) (omega arith)
+arguments_depth table s kinds (RawTypes.more t ts) us h =
+    go (is_kind t) (λ vs e. arguments_depth table s kinds ts vs e) h
   where
     kind : (b : Bool) → ((vs : Tys) → arguments_in table s kinds ts ≡ Ok vs → types_depth vs ≤ raw_types_depth ts)
-        → (if b then arguments_in table s kinds ts else Err Fault.not_a_type) ≡ Ok us → types_depth us ≤ max (raw_type_depth t) (raw_types_depth ts)
+        → (if b then arguments_in table s kinds ts else Err Fault.not_a_type) ≡ Ok us
+        → types_depth us ≤ max (raw_type_depth t) (raw_types_depth ts)
     kind true rest h = omega (arith, rest us h)
     kind false rest h = absurd (no_ok _ us h)
 
     go : (b : Bool) → ((vs : Tys) → arguments_in table s kinds ts ≡ Ok vs → types_depth vs ≤ raw_types_depth ts)
-        → (if b then (if kinds then arguments_in table s kinds ts else Err Fault.not_a_type) else (type_in table s t >>= λ u. arguments_in table s kinds ts >>= λ vs. Ok (Tys.more u vs))) ≡ Ok us
+        → (if b
+        then (if kinds then arguments_in table s kinds ts else Err Fault.not_a_type)
+        else (type_in table s t >>= λ u. arguments_in table s kinds ts >>= λ vs. Ok (Tys.more u vs))) ≡ Ok us
         → types_depth us ≤ max (raw_type_depth t) (raw_types_depth ts)
     go true rest h = kind kinds rest h
     go false rest h =
@@ -109,24 +127,32 @@ arguments_depth table s kinds (RawTypes.more t ts) us h = go (is_kind t) (λ vs 
         let b = both_ok (arguments_in table s kinds ts) _ us a.2 in
         let d = written_type_depth table s t a.0 a.1 in
         let e = rest b.0 b.1 in
-        subst (λ (y : Tys). types_depth y ≤ max (raw_type_depth t) (raw_types_depth ts)) (ok_same (Tys.more a.0 b.0) us b.2) (omega arith)
+        subst (λ (y : Tys). types_depth y ≤ max (raw_type_depth t) (raw_types_depth ts))
+        (ok_same (Tys.more a.0 b.0) us b.2) (omega arith)
 
-declare_shallow : (table : Table) (x : Name) (top : RawTop) (grown : Table) → IsShallowTable table → raw_types_depth top.arguments ≤ 201 → raw_type_depth top.result ≤ 201
+declare_shallow : (table : Table) (x : Name) (top : RawTop) (grown : Table) → IsShallowTable table
+    → raw_types_depth top.arguments ≤ 201 → raw_type_depth top.result ≤ 201
     → declare table x top ≡ Ok grown → IsShallowTable grown
 declare_shallow table x top grown ok m l h = go (known table x) h
   where
     go : (o : Option Numbered)
-        → if_new o (if nat_lt (length table) most_symbols then (declared_symbol table x top >>= λ d. Ok (with_entry table true d)) else Err Fault.too_many_symbols) ≡ Ok grown
+        → if_new o
+        (if nat_lt (length table) most_symbols
+        then (declared_symbol table x top >>= λ d. Ok (with_entry table true d))
+        else Err Fault.too_many_symbols) ≡ Ok grown
         → IsShallowTable grown
     go (Some d) h = absurd (no_ok _ grown h)
     go None h =
-        let a = test_held (nat_lt (length table) most_symbols) (declared_symbol table x top >>= λ d. Ok (with_entry table true d)) Fault.too_many_symbols grown h in
+        let a = test_held (nat_lt (length table) most_symbols)
+        (declared_symbol table x top >>= λ d. Ok (with_entry table true d)) Fault.too_many_symbols grown h in
         let b = both_ok (declared_symbol table x top) _ grown a.1 in
         let d = b.0 in
         let c = both_ok (type_variables [] top.binders) _ d b.1 in
         let e = both_ok (arguments_in table c.0 (is_kind top.result) top.arguments) _ d c.2 in
-        let r = result_shallow table x (number_of_types top.arguments) c.0 e.0 top.result d (omega (arith, m, arguments_depth table c.0 (is_kind top.result) top.arguments e.0 e.1)) l e.2 in
-        subst (λ (y : Table). IsShallowTable y) (ok_same (with_entry table true d) grown b.2) (added_shallow table true d ok r)
+        let r = result_shallow table x (number_of_types top.arguments) c.0 e.0 top.result d
+        (omega (arith, m, arguments_depth table c.0 (is_kind top.result) top.arguments e.0 e.1)) l e.2 in
+        subst (λ (y : Table). IsShallowTable y) (ok_same (with_entry table true d) grown b.2)
+        (added_shallow table true d ok r)
 
 -- what statements within the limits make so far
 pub record IsTypedState (state : State) : Type 0 where
@@ -138,10 +164,14 @@ pub record IsTypedState (state : State) : Type 0 where
 form_stays : (a b : List Symbol) (f : Form) → Extends a b → IsProblemForm a f → IsProblemForm b f
 form_stays a b f x h = record { typed = form_kept a b x h.typed; parameters = h.parameters; shallow = h.shallow }
 
-all_stay : (a b : List Symbol) (ps : List Premise) → Extends a b → All (λ p. IsProblemForm a p.form) ps → All (λ p. IsProblemForm b p.form) ps
-all_stay a b ps x h = All-weaker (λ (p : Premise). IsProblemForm a p.form) (λ (p : Premise). IsProblemForm b p.form) (λ p i. form_stays a b p.form x i) ps h
+all_stay : (a b : List Symbol) (ps : List Premise) → Extends a b → All (λ p. IsProblemForm a p.form) ps
+    → All (λ p. IsProblemForm b p.form) ps
+all_stay a b ps x h =
+    All-weaker (λ (p : Premise). IsProblemForm a p.form) (λ (p : Premise). IsProblemForm b p.form)
+    (λ p i. form_stays a b p.form x i) ps h
 
-conjecture_stays : (a b : List Symbol) (o : Option Form) → Extends a b → ((f : Form) → o ≡ Some f → IsProblemForm a f) → (f : Form) → o ≡ Some f → IsProblemForm b f
+conjecture_stays : (a b : List Symbol) (o : Option Form) → Extends a b → ((f : Form) → o ≡ Some f → IsProblemForm a f)
+    → (f : Form) → o ≡ Some f → IsProblemForm b f
 conjecture_stays a b o x h f e = form_stays a b f x (h f e)
 
 start_typed : IsTypedState start
@@ -155,7 +185,8 @@ start_typed = record {
 some_form : (f g : Form) → Some f ≡ Some g → f ≡ g
 some_form f g h = cc
 
-formula_typed : (state : State) (x : Name) (role : Option Role) (f : RawForm) (next : State) → IsTypedState state → IsNested f → raw_depth f ≤ 1000
+formula_typed : (state : State) (x : Name) (role : Option Role) (f : RawForm) (next : State) → IsTypedState state
+    → IsNested f → raw_depth f ≤ 1000
     → IsState next → formula_of state x role f ≡ Ok next → IsTypedState next
 formula_typed state x (Some role) f next ok nested low after h =
     let a = both_ok (form_in state.table [] true f) _ next h in
@@ -170,12 +201,16 @@ formula_typed state x (Some role) f next ok nested low after h =
     (record {
       made = subst (λ (y : State). IsState y) (sym e) after;
       shallow = d.table;
-      premises = All-push P state.premises made (all_stay (symbols_of state.table) (symbols_of g.table) state.premises i.grown.grows ok.premises) p;
-      conjecture = conjecture_stays (symbols_of state.table) (symbols_of g.table) state.conjecture i.grown.grows ok.conjecture;
+      premises =
+          All-push P state.premises made
+          (all_stay (symbols_of state.table) (symbols_of g.table) state.premises i.grown.grows ok.premises) p;
+      conjecture =
+          conjecture_stays (symbols_of state.table) (symbols_of g.table) state.conjecture i.grown.grows ok.conjecture;
     })
 formula_typed state x None f next ok nested low after h = go state.conjecture h
   where
-    go : (o : Option Form) → if_first o (form_in state.table [] true f >>= λ g. Ok (with_conjecture state g)) ≡ Ok next → IsTypedState next
+    go : (o : Option Form) → if_first o (form_in state.table [] true f >>= λ g. Ok (with_conjecture state g)) ≡ Ok next
+        → IsTypedState next
     go (Some c) h = absurd (no_ok _ next h)
     go None h =
         let a = both_ok (form_in state.table [] true f) _ next h in
@@ -192,9 +227,11 @@ formula_typed state x None f next ok nested low after h = go state.conjecture h
           conjecture = λ c q. subst (λ (y : Form). IsProblemForm (symbols_of g.table) y) (some_form g.tree c q) p;
         })
 
-statement_typed : (state : State) (s : RawStatement) (next : State) → IsTypedState state → IsWithinLimits s → statement_in state s ≡ Ok next → IsTypedState next
+statement_typed : (state : State) (s : RawStatement) (next : State) → IsTypedState state → IsWithinLimits s
+    → statement_in state s ≡ Ok next → IsTypedState next
 statement_typed state (RawStatement.formula x role f) next ok l h =
-    formula_typed state x (premise_role role) f next ok l.0 l.1 (statement_is state (RawStatement.formula x role f) next ok.made h) h
+    formula_typed state x (premise_role role) f next ok l.0 l.1
+    (statement_is state (RawStatement.formula x role f) next ok.made h) h
 statement_typed state (RawStatement.typing x subject top) next ok l h =
     let a = both_ok (declare state.table subject top) _ next h in
     let g = declare_is state.table subject top a.0 ok.made.table a.1 in
@@ -207,14 +244,19 @@ statement_typed state (RawStatement.typing x subject top) next ok l h =
       premises = all_stay (symbols_of state.table) (symbols_of a.0) state.premises g.grows ok.premises;
       conjecture = conjecture_stays (symbols_of state.table) (symbols_of a.0) state.conjecture g.grows ok.conjecture;
     })
-statement_typed state (RawStatement.inclusion file names) next ok l h = subst (λ (y : State). IsTypedState y) (ok_same state next h) ok
+statement_typed state (RawStatement.inclusion file names) next ok l h =
+    subst (λ (y : State). IsTypedState y) (ok_same state next h) ok
 
-statements_typed : (n : ℕ) (state : State) (xs : List RawStatement) (last : State) → IsTypedState state → AreWithinLimits xs → statements_in n state xs ≡ Ok last → IsTypedState last
+statements_typed : (n : ℕ) (state : State) (xs : List RawStatement) (last : State) → IsTypedState state
+    → AreWithinLimits xs → statements_in n state xs ≡ Ok last → IsTypedState last
 statements_typed n state [] last ok l h = subst (λ (y : State). IsTypedState y) (typed_same state last h) ok
-statements_typed n state (x ∷ xs) last ok l h = go (statement_in state x) refl h (λ next i e. statements_typed (suc n) next xs last i l.1 e)
+statements_typed n state (x ∷ xs) last ok l h =
+    go (statement_in state x) refl h (λ next i e. statements_typed (suc n) next xs last i l.1 e)
   where
-    go : (r : Outcome State) → statement_in state x ≡ r → then_typed (refused_at n (symbols_of state.table) r) (λ next. statements_in (suc n) next xs) ≡ Ok last
-        → ((next : State) → IsTypedState next → statements_in (suc n) next xs ≡ Ok last → IsTypedState last) → IsTypedState last
+    go : (r : Outcome State) → statement_in state x ≡ r
+        → then_typed (refused_at n (symbols_of state.table) r) (λ next. statements_in (suc n) next xs) ≡ Ok last
+        → ((next : State) → IsTypedState next → statements_in (suc n) next xs ≡ Ok last → IsTypedState last)
+        → IsTypedState last
     go (Ok next) e h rest = rest next (statement_typed state x next ok l.0 e) h
     go (Err f) e h rest = absurd (no_refusal _ last h)
 
@@ -229,7 +271,8 @@ nth_got (d ∷ ds) zero e l = refl
 nth_got (d ∷ ds) (suc k) e l = nth_got ds k e (omega arith)
 
 shallow_symbols : (ds : List Symbol) → ((n : ℕ) (d : Symbol) → nth ds n ≡ Some d → types_depth d.arguments ≤ 201)
-    → ((n : ℕ) (d : Symbol) (r : Ty) → nth ds n ≡ Some d → d.sense ≡ Sense.function r → type_depth r ≤ 201) → All (λ d. symbol_depth d ≤ 1500) ds
+    → ((n : ℕ) (d : Symbol) (r : Ty) → nth ds n ≡ Some d → d.sense ≡ Sense.function r → type_depth r ≤ 201)
+    → All (λ d. symbol_depth d ≤ 1500) ds
 shallow_symbols ds a r = λ k e l.
     let h = nth_got ds k e l in
     let d = get_or ds k e in
@@ -240,20 +283,26 @@ shallow_symbols ds a r = λ k e l.
 state_makes : (state : State) → IsTypedState state → IsTypedProblem (problem_of state)
 state_makes state ok = record {
   signature = ok.made.table.signature;
-  shallow = shallow_symbols (symbols_of state.table) (λ n d h. ok.shallow.arguments n d h) (λ n d r h e. ok.shallow.at n d r h e);
+  shallow =
+      shallow_symbols (symbols_of state.table) (λ n d h. ok.shallow.arguments n d h)
+      (λ n d r h e. ok.shallow.at n d r h e);
   names = λ m n d e h i same. ok.made.table.names.same m n d e h i same.name same.arguments;
   premises = ok.premises;
   conjecture = go state.conjecture ok.conjecture;
 }
   where
-    go : (o : Option Form) → ((f : Form) → o ≡ Some f → IsProblemForm (symbols_of state.table) f) → IsProblemForm (symbols_of state.table) (to_prove o)
+    go : (o : Option Form) → ((f : Form) → o ≡ Some f → IsProblemForm (symbols_of state.table) f)
+        → IsProblemForm (symbols_of state.table) (to_prove o)
     go None h = record { typed = WellTyped.falsity; parameters = tt; shallow = omega arith }
     go (Some f) h = h f refl
 
 -- what the statements make is a typed problem, no deeper than 1,500
-pub problem_is_typed : (statements : List RawStatement) (p : Problem) → AreWithinLimits statements → problem_in statements ≡ Ok p → IsTypedProblem p
+pub problem_is_typed : (statements : List RawStatement) (p : Problem) → AreWithinLimits statements
+    → problem_in statements ≡ Ok p → IsTypedProblem p
 problem_is_typed statements p l h = go (statements_in 0 start statements) refl h
   where
     go : (r : Result State Refusal) → statements_in 0 start statements ≡ r → problem_if r ≡ Ok p → IsTypedProblem p
-    go (Ok state) e h = subst (λ (y : Problem). IsTypedProblem y) (typed_same (problem_of state) p h) (state_makes state (statements_typed 0 start statements state start_typed l e))
+    go (Ok state) e h =
+        subst (λ (y : Problem). IsTypedProblem y) (typed_same (problem_of state) p h)
+        (state_makes state (statements_typed 0 start statements state start_typed l e))
     go (Err f) e h = absurd (no_refusal _ p h)

@@ -293,7 +293,8 @@ equality_holds table s front left right e h =
 
 pub form_holds : (table : Table) (s : Scope) (front : Bool) (f : RawForm) (e : Typed Form)
     → form_in table s front f ≡ Ok e → DenotesForm table s front f e.tree e.table
-form_holds table s front RawForm.truth e h = given_form table s front RawForm.truth Form.truth table e h DenotesForm.truth
+form_holds table s front RawForm.truth e h =
+    given_form table s front RawForm.truth Form.truth table e h DenotesForm.truth
 form_holds table s front RawForm.falsity e h =
     given_form table s front RawForm.falsity Form.falsity table e h DenotesForm.falsity
 form_holds table s front (RawForm.plain u) e h =

@@ -141,7 +141,8 @@ module _ (state : State) where
       → MakesState state (RawStatement.typing x subject top) next
   new_declaration_holds x subject top next new h =
       let made = declared_symbol state.table subject top >>= λ d. Ok (with_entry state.table true d) in
-      let a = both_ok (if nat_lt (length state.table) most_symbols then made else Err Fault.too_many_symbols) _ next h in
+      let a = both_ok
+      (if nat_lt (length state.table) most_symbols then made else Err Fault.too_many_symbols) _ next h in
       let b = test_held (nat_lt (length state.table) most_symbols) made Fault.too_many_symbols a.0 a.1 in
       let c = both_ok (declared_symbol state.table subject top) _ a.0 b.1 in
       subst (λ (y : State). MakesState state (RawStatement.typing x subject top) y)

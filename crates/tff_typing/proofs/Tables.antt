@@ -17,7 +17,8 @@ use Rattle.tff_typing.proofs.Extends.{Extends, appended}
 
 -- two symbols with one name and one number of arguments are one
 pub record HasDistinctNames (symbols : List Symbol) : Type 0 where
-  pub same : (m n : ℕ) (d e : Symbol) → nth symbols m ≡ Some d → nth symbols n ≡ Some e → d.name ≡ e.name → arity d ≡ arity e → m ≡ n
+  pub same : (m n : ℕ) (d e : Symbol) → nth symbols m ≡ Some d → nth symbols n ≡ Some e → d.name ≡ e.name
+      → arity d ≡ arity e → m ≡ n
 
 pub record IsTable (table : Table) : Type 0 where
   pub signature : IsSignature (symbols_of table)
@@ -27,7 +28,8 @@ pub record IsTable (table : Table) : Type 0 where
 pub record IsNew (symbols : List Symbol) (d : Symbol) : Type 0 where
   pub differs : (n : ℕ) (e : Symbol) → nth symbols n ≡ Some e → e.name ≡ d.name → arity e ≡ arity d → ⊥
 
-pub symbols_more : (table : Table) (b : Bool) (d : Symbol) → symbols_of (with_entry table b d) ≡ symbols_of table ++ d ∷ []
+pub symbols_more : (table : Table) (b : Bool) (d : Symbol)
+    → symbols_of (with_entry table b d) ≡ symbols_of table ++ d ∷ []
 symbols_more [] b d = refl
 symbols_more (e ∷ es) b d = ap (λ ss. e.symbol ∷ ss) (symbols_more es b d)
 
@@ -83,14 +85,17 @@ pub record IsEntered (table grown : Table) (number : ℕ) (d : Symbol) : Type 0 
   pub grows : Extends (symbols_of table) (symbols_of grown)
   pub at : symbol_at (symbols_of grown) number ≡ Some d
 
-pub entered : (table : Table) (b : Bool) (d : Symbol) → IsTable table → IsDeclaration (symbols_of table) d → IsNew (symbols_of table) d
+pub entered : (table : Table) (b : Bool) (d : Symbol) → IsTable table → IsDeclaration (symbols_of table) d
+    → IsNew (symbols_of table) d
     → IsEntered table (with_entry table b d) (suc (length table)) d
 entered table b d ok new fresh =
     let e = symbols_more table b d in
     record {
       good = record {
-        signature = subst (λ (x : List Symbol). IsSignature x) (sym e) (signature_more (symbols_of table) d ok.signature new);
-        names = subst (λ (x : List Symbol). HasDistinctNames x) (sym e) (names_more (symbols_of table) d ok.names fresh);
+        signature =
+            subst (λ (x : List Symbol). IsSignature x) (sym e) (signature_more (symbols_of table) d ok.signature new);
+        names =
+            subst (λ (x : List Symbol). HasDistinctNames x) (sym e) (names_more (symbols_of table) d ok.names fresh);
       };
       grows = subst (λ (x : List Symbol). Extends (symbols_of table) x) (sym e) (appended (symbols_of table) (d ∷ []));
       at = rw (e, ← length_symbols table) (nth_last (symbols_of table) d);
@@ -103,7 +108,8 @@ pub record Fails (one two : Entry → Bool) (d : Symbol) : Type 0 where
   pub first : one entry ≡ false
   pub second : two entry ≡ false
 
-pub none_found : (k : ℕ) (one two : Entry → Bool) (table : Table) → first_from k one table ≡ None → first_from k two table ≡ None
+pub none_found : (k : ℕ) (one two : Entry → Bool) (table : Table) → first_from k one table ≡ None
+    → first_from k two table ≡ None
     → (n : ℕ) (d : Symbol) → nth (symbols_of table) n ≡ Some d → Fails one two d
 none_found k one two [] h i n d e = absurd (no_some d e)
 none_found k one two (x ∷ xs) h i n d e =
@@ -116,7 +122,8 @@ none_found k one two (x ∷ xs) h i n d e =
         → (if a then Some (record { number = k; symbol = x.symbol }) else first_from (suc k) one xs) ≡ None
         → (if b then Some (record { number = k; symbol = x.symbol }) else first_from (suc k) two xs) ≡ None
         → (m : ℕ) → nth (symbols_of (x ∷ xs)) m ≡ Some d
-        → (first_from (suc k) one xs ≡ None → first_from (suc k) two xs ≡ None → (m : ℕ) → nth (symbols_of xs) m ≡ Some d → Fails one two d)
+        → (first_from (suc k) one xs ≡ None → first_from (suc k) two xs ≡ None → (m : ℕ)
+        → nth (symbols_of xs) m ≡ Some d → Fails one two d)
         → Fails one two d
     go true b p q h i m e later = absurd (no_none _ h)
     go false true p q h i m e later = absurd (no_none _ i)
@@ -128,7 +135,8 @@ how_many_individuals zero = refl
 how_many_individuals (suc n) = omega (arith, how_many_individuals n)
 
 -- neither declared nor used with this number of arguments: new
-pub not_used : (table : Table) (place : Place) (x : Name) (n : ℕ) → declared table x ≡ None → used table x n ≡ None → IsNew (symbols_of table) (undeclared place x n)
+pub not_used : (table : Table) (place : Place) (x : Name) (n : ℕ) → declared table x ≡ None → used table x n ≡ None
+    → IsNew (symbols_of table) (undeclared place x n)
 not_used table place x n h i = record { differs = differs }
   where
     true_false : true ≡ false → ⊥
@@ -139,7 +147,8 @@ not_used table place x n h i = record { differs = differs }
     tests false true m p q u v = true_false (sym ((Decides-eqb m n).1 q) ∙ v)
     tests false false m p q u v = cc
 
-    differs : (m : ℕ) (e : Symbol) → nth (symbols_of table) m ≡ Some e → e.name ≡ x → arity e ≡ 0 + how_many (individuals_of n) → ⊥
+    differs : (m : ℕ) (e : Symbol) → nth (symbols_of table) m ≡ Some e → e.name ≡ x
+        → arity e ≡ 0 + how_many (individuals_of n) → ⊥
     differs m e at name number =
         let f = none_found 1 (declared_as x) (used_as x n) table h i m e at in
         let s : f.entry.symbol.name ≡ x = ap (λ (y : Symbol). y.name) f.same ∙ name in
@@ -155,9 +164,11 @@ individuals_free : (n : ℕ) → EachInTypes Never (individuals_of n)
 individuals_free zero = tt
 individuals_free (suc n) = (tt, individuals_free n)
 
-undeclared_typed : (symbols : List Symbol) (place : Place) (x : Name) (n : ℕ) → IsDeclaration symbols (undeclared place x n)
+undeclared_typed : (symbols : List Symbol) (place : Place) (x : Name) (n : ℕ)
+    → IsDeclaration symbols (undeclared place x n)
 undeclared_typed symbols Place.formula x n = (individuals_typed symbols 0 n, individuals_free n, tt)
-undeclared_typed symbols Place.term x n = (individuals_typed symbols 0 n, individuals_free n, (((individuals, (refl, refl), refl), tt), tt))
+undeclared_typed symbols Place.term x n =
+    (individuals_typed symbols 0 n, individuals_free n, (((individuals, (refl, refl), refl), tt), tt))
 
 -- what is known of a symbol at its place
 pub record IsUse (table : Table) (n : ℕ) (d : Use) : Type 0 where
@@ -170,7 +181,8 @@ pub record IsUse (table : Table) (n : ℕ) (d : Use) : Type 0 where
 abbrev pub use_of : Table → Numbered → Use
 use_of table d = record { found = d; table = table }
 
-if_symbol_is : (table : Table) (d : Numbered) (x : Sense) (u : Use) → if_symbol table d x ≡ Ok u → (use_of table d ≡ u) × (Sense.constructor ≡ x → ⊥)
+if_symbol_is : (table : Table) (d : Numbered) (x : Sense) (u : Use) → if_symbol table d x ≡ Ok u
+    → (use_of table d ≡ u) × (Sense.constructor ≡ x → ⊥)
 if_symbol_is table d Sense.constructor u h = absurd (no_ok _ u h)
 if_symbol_is table d Sense.predicate u h = (ok_same (use_of table d) u h, no_predicate)
   where
@@ -202,20 +214,40 @@ module _ (table : Table) (ok : IsTable table) where
       → new_symbol table false (undeclared place x n) ≡ Ok u → IsUse table n u
   new_is place x n u h i e =
       let d = undeclared place x n in
-      let made = entered table false d ok (undeclared_typed (symbols_of table) place x n) (not_used table place x n h i) in
-      let r : Use = record { found = record { number = suc (length table); symbol = d }; table = with_entry table false d } in
+      let made = entered table false d ok (undeclared_typed (symbols_of table) place x n)
+      (not_used table place x n h i) in
+      let r : Use = record {
+        found = record {
+          number = suc (length table);
+          symbol = d;
+        };
+        table = with_entry table false d;
+      } in
       let t = test_held (nat_lt (length table) most_symbols) (Ok r) Fault.too_many_symbols u e in
       subst (λ (y : Use). IsUse table n y) (ok_same r u t.1)
-      (record { good = made.good; grows = made.grows; at = made.at; number = omega (arith, how_many_individuals n); sense = made_sense place })
+      (record {
+        good = made.good;
+        grows = made.grows;
+        at = made.at;
+        number = omega (arith, how_many_individuals n);
+        sense = made_sense place;
+      })
 
-  used_is : (place : Place) (x : Name) (n : ℕ) (u : Use) → declared table x ≡ None → (o : Option Numbered) → used table x n ≡ o
+  used_is : (place : Place) (x : Name) (n : ℕ) (u : Use) → declared table x ≡ None → (o : Option Numbered)
+      → used table x n ≡ o
       → used_or_new table place x n o ≡ Ok u → IsUse table n u
   used_is place x n u h None i e = new_is place x n u h i e
   used_is place x n u h (Some d) i e =
       let f = first_found 1 (used_as x n) table d i in
       let t = if_symbol_is table d d.symbol.sense u e in
       subst (λ (y : Use). IsUse table n y) t.0
-      (record { good = ok; grows = record { at = λ m s a. a }; at = found_at (used_as x n) table d i; number = used_number x n f.entry d.symbol f.same f.passes; sense = t.1 })
+      (record {
+        good = ok;
+        grows = record { at = λ m s a. a };
+        at = found_at (used_as x n) table d i;
+        number = used_number x n f.entry d.symbol f.same f.passes;
+        sense = t.1;
+      })
 
   declared_is : (place : Place) (x : Name) (n : ℕ) (u : Use) → (o : Option Numbered) → declared table x ≡ o
       → declared_or_used table place x n o ≡ Ok u → IsUse table n u
@@ -224,7 +256,13 @@ module _ (table : Table) (ok : IsTable table) where
       let t = test_held (n == arity d.symbol) (if_symbol table d d.symbol.sense) Fault.arity u e in
       let k = if_symbol_is table d d.symbol.sense u t.1 in
       subst (λ (y : Use). IsUse table n y) k.0
-      (record { good = ok; grows = record { at = λ m s a. a }; at = found_at (declared_as x) table d i; number = eqb-true n (arity d.symbol) t.0; sense = k.1 })
+      (record {
+        good = ok;
+        grows = record { at = λ m s a. a };
+        at = found_at (declared_as x) table d i;
+        number = eqb-true n (arity d.symbol) t.0;
+        sense = k.1;
+      })
 
   -- the symbol of a name stands in the table that its use leaves, and takes as many arguments
   pub use_is : (place : Place) (x : Name) (n : ℕ) (u : Use) → symbol_for table place x n ≡ Ok u → IsUse table n u

@@ -36,11 +36,14 @@ in_scope_kept v s (Parameter.type_meta n) h = h
 in_scope_kept v s (Parameter.eps n t) h = binder_kept v s n (Binder.of_term t) h
 in_scope_kept v s (Parameter.meta n t) h = h
 
-pub type_under : (symbols : List Symbol) (v : Variable) (s : Scope) (t : Ty) → IsTypeIn symbols s t → IsTypeIn symbols (v ∷ s) t
-type_under symbols v s t h = record { typed = h.typed; each = each_type (IsInScope s) (IsInScope (v ∷ s)) (in_scope_kept v s) t h.each }
+pub type_under : (symbols : List Symbol) (v : Variable) (s : Scope) (t : Ty) → IsTypeIn symbols s t
+    → IsTypeIn symbols (v ∷ s) t
+type_under symbols v s t h =
+    record { typed = h.typed; each = each_type (IsInScope s) (IsInScope (v ∷ s)) (in_scope_kept v s) t h.each }
 
 -- a variable's type is a type over the whole scope
-pub carried : (symbols : List Symbol) (s : Scope) (n : ℕ) (t : Ty) → IsScope symbols s → binder_of s n ≡ Some (Binder.of_term t) → IsTypeIn symbols s t
+pub carried : (symbols : List Symbol) (s : Scope) (n : ℕ) (t : Ty) → IsScope symbols s
+    → binder_of s n ≡ Some (Binder.of_term t) → IsTypeIn symbols s t
 carried symbols [] n t ok h = absurd (no_some (Binder.of_term t) h)
 carried symbols (v ∷ vs) n t ok h = go (n == length vs) h (λ i. carried symbols vs n t ok.0 i)
   where
@@ -94,7 +97,8 @@ pub record AreSound (s : Scope) (before : Table) (ws : Tys) (e : Typed Terms) : 
 pub first_number : (n : ℕ) (us : RawTerms) → n ≤ number_of_terms us → number_of_types (as_types (first n us)) ≡ n
 first_number zero us h = refl
 first_number (suc n) RawTerms.none h = absurd (omega arith)
-first_number (suc n) (RawTerms.more u us) h = let l : n ≤ number_of_terms us = omega arith in ap suc (first_number n us l)
+first_number (suc n) (RawTerms.more u us) h =
+    let l : n ≤ number_of_terms us = omega arith in ap suc (first_number n us l)
 
 and_true : (a b : Bool) → (a && b) ≡ true → (a ≡ true) × (b ≡ true)
 and_true true b h = (refl, h)
@@ -144,13 +148,16 @@ mutual
       cc
 
 -- the term of a wanted type
-pub wanted_is : (symbols : List Symbol) (s : Scope) (t : Ty) (e : Expression) (u : Term) → IsExpressionIn symbols s e → wanted t e ≡ Ok u → IsTermIn symbols s t u
+pub wanted_is : (symbols : List Symbol) (s : Scope) (t : Ty) (e : Expression) (u : Term) → IsExpressionIn symbols s e
+    → wanted t e ≡ Ok u → IsTermIn symbols s t u
 wanted_is symbols s t (Expression.term v a) u ok h =
     let b = test_held (same_type v t) (Ok a) (Fault.mismatch (found_type t) (found_type v)) u h in
-    subst (λ (x : Term). IsTermIn symbols s t x) (ok_same a u b.1) (subst (λ (x : Ty). IsTermIn symbols s x a) (same_is v t b.0) ok)
+    subst (λ (x : Term). IsTermIn symbols s t x) (ok_same a u b.1)
+    (subst (λ (x : Ty). IsTermIn symbols s x a) (same_is v t b.0) ok)
 wanted_is symbols s t (Expression.atom p ts us) u ok h = absurd (no_ok _ u h)
 
-variable_is : (symbols : List Symbol) (s : Scope) (n : ℕ) (b : Binder) (e : Expression) → IsScope symbols s → binder_of s n ≡ Some b
+variable_is : (symbols : List Symbol) (s : Scope) (n : ℕ) (b : Binder) (e : Expression) → IsScope symbols s
+    → binder_of s n ≡ Some b
     → if_term n b ≡ Ok e → IsExpressionIn symbols s e
 variable_is symbols s n Binder.of_type e ok here h = absurd (no_ok _ e h)
 variable_is symbols s n (Binder.of_term t) e ok here h =
@@ -159,7 +166,8 @@ variable_is symbols s n (Binder.of_term t) e ok here h =
     (record { typed = (c.typed, refl); type = c; each = (here, c.each) })
 
 bound_is : (symbols : List Symbol) (s : Scope) (o : Option Bound) (e : Expression) → IsScope symbols s
-    → ((b : Bound) → o ≡ Some b → binder_of s b.number ≡ Some b.binder) → term_variable o ≡ Ok e → IsExpressionIn symbols s e
+    → ((b : Bound) → o ≡ Some b → binder_of s b.number ≡ Some b.binder) → term_variable o ≡ Ok e
+    → IsExpressionIn symbols s e
 bound_is symbols s None e ok found h = absurd (no_ok _ e h)
 bound_is symbols s (Some b) e ok found h = variable_is symbols s b.number b.binder e ok (found b refl) h
 
@@ -167,7 +175,8 @@ never_any : (s : Scope) (t : Ty) → EachInType Never t → EachInType (IsInScop
 never_any s t h = each_type Never (IsInScope s) (λ p x. absurd x) t h
 
 -- a function's result type has no parameter, and its indices are the declaration's type variables
-result_is : (symbols : List Symbol) → IsSignature symbols → (f : ℕ) (d : Symbol) (r : Ty) → symbol_at symbols f ≡ Some d → d.sense ≡ Sense.function r
+result_is : (symbols : List Symbol) → IsSignature symbols → (f : ℕ) (d : Symbol) (r : Ty) → symbol_at symbols f ≡ Some d
+    → d.sense ≡ Sense.function r
     → (n : ℕ) × IsType (take n symbols) d.types r × EachInType Never r
 result_is symbols sig zero d r h e = absurd (no (ap (λ (y : Symbol). y.sense) (some_same individuals d h) ∙ e))
   where
@@ -222,7 +231,8 @@ pub as_it_is : (table : Table) → IsTable table → IsGrown table table
 as_it_is table ok = record { good = ok; grows = itself (symbols_of table) }
 
 mutual
-  pub expression_sound : (table : Table) (s : Scope) (place : Place) (u : RawTerm) (e : Typed Expression) → IsTable table → IsScope (symbols_of table) s
+  pub expression_sound : (table : Table) (s : Scope) (place : Place) (u : RawTerm) (e : Typed Expression)
+      → IsTable table → IsScope (symbols_of table) s
       → expression_in table s place u ≡ Ok e → IsSound s table e
   expression_sound table s place RawTerm.individual e ok scope h = absurd (no_ok _ e h)
   expression_sound table s place RawTerm.truth e ok scope h = absurd (no_ok _ e h)
@@ -230,7 +240,10 @@ mutual
       let a = both_ok (term_variable (look_up s x)) (λ y. gives table y) e h in
       let r : Typed Expression = record { tree = a.0; table = table } in
       subst (λ (y : Typed Expression). IsSound s table y) (ok_same r e a.2)
-      (record { grown = as_it_is table ok; expression = bound_is (symbols_of table) s (look_up s x) a.0 scope (λ b i. looked_up s x b i) a.1 })
+      (record {
+        grown = as_it_is table ok;
+        expression = bound_is (symbols_of table) s (look_up s x) a.0 scope (λ b i. looked_up s x b i) a.1;
+      })
   expression_sound table s place (RawTerm.named f us) e ok scope h =
       let a = both_ok (symbol_for table place f (number_of_terms us)) _ e h in
       let d = a.0 in
@@ -240,7 +253,8 @@ mutual
       let vs = c.0 in
       let x = use_is table ok place f (number_of_terms us) d a.1 in
       let t = types_sound d.table s x.good.signature (as_types (first d.found.symbol.types us)) ts b.1 in
-      let n : how_many ts ≡ d.found.symbol.types = t.number ∙ first_number d.found.symbol.types us (omega (arith, x.number)) in
+      let n : how_many ts
+      ≡ d.found.symbol.types = t.number ∙ first_number d.found.symbol.types us (omega (arith, x.number)) in
       let m = how_many_instance (openings ts) d.found.symbol.arguments in
       let v = terms_sound d.table s d.found.symbol.types (argument_types d.found.symbol ts) us vs x.good
       (scope_kept (symbols_of table) (symbols_of d.table) s x.grows scope) (omega (arith, x.number, m)) c.1 in
@@ -255,13 +269,16 @@ mutual
             d.found.symbol.sense refl x.sense;
       })
 
-  pub terms_sound : (table : Table) (s : Scope) (n : ℕ) (ws : Tys) (us : RawTerms) (e : Typed Terms) → IsTable table → IsScope (symbols_of table) s
+  pub terms_sound : (table : Table) (s : Scope) (n : ℕ) (ws : Tys) (us : RawTerms) (e : Typed Terms) → IsTable table
+      → IsScope (symbols_of table) s
       → number_of_terms us ≡ n + how_many ws → terms_in table s n ws us ≡ Ok e → AreSound s table ws e
   terms_sound table s zero Tys.none RawTerms.none e ok scope k h =
-      subst (λ (y : Typed Terms). AreSound s table Tys.none y) (ok_same (no_terms table) e h) (record { grown = as_it_is table ok; typed = tt; each = tt })
+      subst (λ (y : Typed Terms). AreSound s table Tys.none y) (ok_same (no_terms table) e h)
+      (record { grown = as_it_is table ok; typed = tt; each = tt })
   terms_sound table s zero (Tys.more w ws) RawTerms.none e ok scope k h = absurd (omega arith)
   terms_sound table s (suc n) ws RawTerms.none e ok scope k h = absurd (omega arith)
-  terms_sound table s (suc n) ws (RawTerms.more u us) e ok scope k h = terms_sound table s n ws us e ok scope (omega arith) h
+  terms_sound table s (suc n) ws (RawTerms.more u us) e ok scope k h =
+      terms_sound table s n ws us e ok scope (omega arith) h
   terms_sound table s zero Tys.none (RawTerms.more u us) e ok scope k h = absurd (omega arith)
   terms_sound table s zero (Tys.more w ws) (RawTerms.more u us) e ok scope k h =
       let a = both_ok (expression_in table s Place.term u) _ e h in
@@ -271,7 +288,8 @@ mutual
       let vs = c.0 in
       let i = expression_sound table s Place.term u x ok scope a.1 in
       let t = wanted_is (symbols_of x.table) s w x.tree b.0 i.expression b.1 in
-      let v = terms_sound x.table s zero ws us vs i.grown.good (scope_kept (symbols_of table) (symbols_of x.table) s i.grown.grows scope) (omega arith) c.1 in
+      let v = terms_sound x.table s zero ws us vs i.grown.good
+      (scope_kept (symbols_of table) (symbols_of x.table) s i.grown.grows scope) (omega arith) c.1 in
       let grows = v.grown.grows in
       subst (λ (y : Typed Terms). AreSound s table (Tys.more w ws) y) (ok_same (more_gives b.0 vs) e c.2)
       (record {

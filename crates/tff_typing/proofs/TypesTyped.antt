@@ -61,12 +61,14 @@ constructor_is symbols sig n m (Some d) found h =
       sense = b.1;
     }
 
-variable_is : (symbols : List Symbol) (s : Scope) (n : ℕ) (b : Binder) (t : Ty) → binder_of s n ≡ Some b → if_type n b ≡ Ok t → IsTypeIn symbols s t
+variable_is : (symbols : List Symbol) (s : Scope) (n : ℕ) (b : Binder) (t : Ty) → binder_of s n ≡ Some b
+    → if_type n b ≡ Ok t → IsTypeIn symbols s t
 variable_is symbols s n Binder.of_type t here h =
     subst (λ (x : Ty). IsTypeIn symbols s x) (ok_same (Ty.param n) t h) (record { typed = tt; each = here })
 variable_is symbols s n (Binder.of_term u) t here h = absurd (no_ok _ t h)
 
-bound_is : (symbols : List Symbol) (s : Scope) (o : Option Bound) (t : Ty) → ((b : Bound) → o ≡ Some b → binder_of s b.number ≡ Some b.binder)
+bound_is : (symbols : List Symbol) (s : Scope) (o : Option Bound) (t : Ty)
+    → ((b : Bound) → o ≡ Some b → binder_of s b.number ≡ Some b.binder)
     → type_variable o ≡ Ok t → IsTypeIn symbols s t
 bound_is symbols s None t found h = absurd (no_ok _ t h)
 bound_is symbols s (Some b) t found h = variable_is symbols s b.number b.binder t (found b refl) h
@@ -75,7 +77,8 @@ module _ (table : Table) (s : Scope) (sig : IsSignature (symbols_of table)) wher
   mutual
     pub type_sound : (t : RawType) (u : Ty) → type_in table s t ≡ Ok u → IsTypeIn (symbols_of table) s u
     type_sound RawType.individual u h =
-        subst (λ (x : Ty). IsTypeIn (symbols_of table) s x) (ok_same individual u h) (individual_in (symbols_of table) s)
+        subst (λ (x : Ty). IsTypeIn (symbols_of table) s x) (ok_same individual u h)
+        (individual_in (symbols_of table) s)
     type_sound RawType.truth u h = absurd (no_ok _ u h)
     type_sound RawType.kind u h = absurd (no_ok _ u h)
     type_sound (RawType.variable x) u h = bound_is (symbols_of table) s (look_up s x) u (λ b e. looked_up s x b e) h
@@ -89,13 +92,16 @@ module _ (table : Table) (s : Scope) (sig : IsSignature (symbols_of table)) wher
         subst (λ (x : Ty). IsTypeIn (symbols_of table) s x) (ok_same (Ty.con a.0 b.0) u b.2)
         (record { typed = ((d.symbol, (d.at, i), d.sense), us.typed); each = us.each })
 
-    pub types_sound : (ts : RawTypes) (us : Tys) → types_in table s ts ≡ Ok us → AreTypesIn (symbols_of table) s (number_of_types ts) us
+    pub types_sound : (ts : RawTypes) (us : Tys) → types_in table s ts ≡ Ok us
+        → AreTypesIn (symbols_of table) s (number_of_types ts) us
     types_sound RawTypes.none us h =
-        subst (λ (x : Tys). AreTypesIn (symbols_of table) s 0 x) (ok_same Tys.none us h) (record { typed = tt; each = tt; number = refl })
+        subst (λ (x : Tys). AreTypesIn (symbols_of table) s 0 x) (ok_same Tys.none us h)
+        (record { typed = tt; each = tt; number = refl })
     types_sound (RawTypes.more t ts) us h =
         let a = both_ok (type_in table s t) _ us h in
         let b = both_ok (types_in table s ts) _ us a.2 in
         let v = type_sound t a.0 a.1 in
         let vs = types_sound ts b.0 b.1 in
-        subst (λ (x : Tys). AreTypesIn (symbols_of table) s (suc (number_of_types ts)) x) (ok_same (Tys.more a.0 b.0) us b.2)
+        subst (λ (x : Tys). AreTypesIn (symbols_of table) s (suc (number_of_types ts)) x)
+        (ok_same (Tys.more a.0 b.0) us b.2)
         (record { typed = (v.typed, vs.typed); each = (v.each, vs.each); number = omega (arith, vs.number) })

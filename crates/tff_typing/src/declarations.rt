@@ -34,7 +34,8 @@ fn of_kind(ty: &Option<RawType>) -> Result<Binder, Stop>
 // The type variables of a declaration, in scope.
 #[tactic(auto, using(crate::proofs::Declared::variables_step, crate::proofs::Declared::variables_stop))]
 fn type_variables<'a>(alloc: Global, binders: &'a RawVars) -> Result<Vec<Variable<'a>>, Stop>
-    ensures { Gives (λ vs. scope_tree vs.items) result (statements.type_variables [] (map raw_variable_tree binders.entry.now)) }
+    ensures { Gives (λ vs. scope_tree vs.items) result
+        (statements.type_variables [] (map raw_variable_tree binders.entry.now)) }
 {
     let mut scope = Vec::new(alloc);
     for variable in binders.as_slice() {
@@ -65,7 +66,8 @@ fn argument_in<'a>(
     kinds: bool,
     raw: &'a RawType,
 ) -> Result<Option<Ty>, Stop>
-    ensures { Gives (option_map type_tree) result (at.argument_at (table_tree symbols.now) (scope_tree scope.now) kinds (raw_type_tree raw.now)) }
+    ensures { Gives (option_map type_tree) result
+        (at.argument_at (table_tree symbols.now) (scope_tree scope.now) kinds (raw_type_tree raw.now)) }
 {
     if !is_kind(raw) {
         return Ok(Some(type_in(alloc, symbols, scope, raw)?));
@@ -80,7 +82,8 @@ fn argument_in<'a>(
 // One more argument, where there is one.
 #[tactic(auto, using(crate::proofs::Declared::argument_push))]
 fn push_argument(types: &mut Tys, argument: Option<Ty>) -> Result<(), AllocError>
-    ensures { OnOk result (types_tree types.new ≡ at.with_argument (types_tree types.old) (option_map type_tree argument)) }
+    ensures { OnOk result
+        (types_tree types.new ≡ at.with_argument (types_tree types.old) (option_map type_tree argument)) }
 {
     match argument {
         None => Ok(()),
@@ -97,7 +100,8 @@ fn arguments_in<'a>(
     kinds: bool,
     raws: &'a RawTypes,
 ) -> Result<Tys, Stop>
-    ensures { Gives types_tree result (statements.arguments_in (table_tree symbols.now) (scope_tree scope.now) kinds (raw_types_tree raws.now)) }
+    ensures { Gives types_tree result
+        (statements.arguments_in (table_tree symbols.now) (scope_tree scope.now) kinds (raw_types_tree raws.now)) }
 {
     let mut all = Tys::new(alloc);
     for raw in raws.as_slice() {
@@ -115,7 +119,9 @@ fn constructor_of(
     scope: &[Variable],
     arguments: &Tys,
 ) -> Result<Declaration, Stop>
-    ensures { (x : List ℕ) → Gives (declared_as x) result (statements.constructor_of x count (scope_tree scope.now) (types_tree arguments.now)) }
+    ensures { (x : List ℕ)
+        → Gives (declared_as x) result
+        (statements.constructor_of x count (scope_tree scope.now) (types_tree arguments.now)) }
 {
     if scope.len() > 0 {
         return Err(Stop::Refused(Fault::NotAType));
@@ -133,7 +139,9 @@ fn constructor_of(
 // A symbol that makes a formula.
 #[tactic(auto, using(crate::proofs::ScopeLists::length_scope))]
 fn predicate_of(alloc: Global, scope: &[Variable], arguments: &Tys) -> Result<Declaration, Stop>
-    ensures { (x : List ℕ) → Gives (declared_as x) result (Ok (statements.predicate_of x (scope_tree scope.now) (types_tree arguments.now))) }
+    ensures { (x : List ℕ)
+        → Gives (declared_as x) result
+        (Ok (statements.predicate_of x (scope_tree scope.now) (types_tree arguments.now))) }
 {
     Ok(Declaration {
         types: scope.len(),
@@ -150,7 +158,9 @@ fn function_of(
     arguments: &Tys,
     result_type: &Ty,
 ) -> Result<Declaration, Stop>
-    ensures { (x : List ℕ) → Gives (declared_as x) result (Ok (statements.function_of x (scope_tree scope.now) (types_tree arguments.now) (type_tree result_type.now))) }
+    ensures { (x : List ℕ)
+        → Gives (declared_as x) result
+        (Ok (statements.function_of x (scope_tree scope.now) (types_tree arguments.now) (type_tree result_type.now))) }
 {
     Ok(Declaration {
         types: scope.len(),
@@ -161,7 +171,9 @@ fn function_of(
 
 // A symbol that makes an individual.
 fn individual_of(alloc: Global, scope: &[Variable], arguments: &Tys) -> Result<Declaration, Stop>
-    ensures { (x : List ℕ) → Gives (declared_as x) result (Ok (statements.function_of x (scope_tree scope.now) (types_tree arguments.now) typing.individual)) }
+    ensures { (x : List ℕ)
+        → Gives (declared_as x) result
+        (Ok (statements.function_of x (scope_tree scope.now) (types_tree arguments.now) typing.individual)) }
 {
     function_of(alloc, scope, arguments, &individual(alloc))
 }
@@ -174,7 +186,10 @@ fn function_in<'a>(
     arguments: &Tys,
     raw: &'a RawType,
 ) -> Result<Declaration, Stop>
-    ensures { (x : List ℕ) → Gives (declared_as x) result (at.function_at (table_tree symbols.now) x (scope_tree scope.now) (types_tree arguments.now) (raw_type_tree raw.now)) }
+    ensures { (x : List ℕ)
+        → Gives (declared_as x) result
+        (at.function_at (table_tree symbols.now) x (scope_tree scope.now) (types_tree arguments.now)
+        (raw_type_tree raw.now)) }
 {
     let result_type = type_in(alloc, symbols, scope, raw)?;
     function_of(alloc, scope, arguments, &result_type)
@@ -189,7 +204,10 @@ fn with_result<'a>(
     arguments: &Tys,
     raw: &'a RawType,
 ) -> Result<Declaration, Stop>
-    ensures { (x : List ℕ) → Gives (declared_as x) result (statements.with_result (table_tree symbols.now) x count (scope_tree scope.now) (types_tree arguments.now) (raw_type_tree raw.now)) }
+    ensures { (x : List ℕ)
+        → Gives (declared_as x) result
+        (statements.with_result (table_tree symbols.now) x count (scope_tree scope.now) (types_tree arguments.now)
+        (raw_type_tree raw.now)) }
 {
     match raw {
         RawType::Kind => constructor_of(alloc, count, scope, arguments),
@@ -206,7 +224,8 @@ fn declared_symbol<'a>(
     symbols: &Symbols<'a>,
     top: &'a RawTop,
 ) -> Result<Declaration, Stop>
-    ensures { (x : List ℕ) → Gives (declared_as x) result (statements.declared_symbol (table_tree symbols.now) x (raw_top_tree top.now)) }
+    ensures { (x : List ℕ)
+        → Gives (declared_as x) result (statements.declared_symbol (table_tree symbols.now) x (raw_top_tree top.now)) }
 {
     let variables = type_variables(alloc, &top.binders)?;
     let scope = variables.as_slice();
@@ -224,7 +243,8 @@ pub fn declare<'a>(
     subject: &'a str,
     top: &'a RawTop,
 ) -> Result<(), Stop>
-    ensures { GivesTable result symbols.new (statements.declare (table_tree symbols.old) subject.entry.now (raw_top_tree top.entry.now)) }
+    ensures { GivesTable result symbols.new
+        (statements.declare (table_tree symbols.old) subject.entry.now (raw_top_tree top.entry.now)) }
 {
     if symbols.is_known(subject) {
         return Err(Stop::Refused(Fault::Redeclared));

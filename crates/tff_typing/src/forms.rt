@@ -69,7 +69,8 @@ fn plain<'a>(
     scope: &[Variable],
     raw: &'a RawTerm,
 ) -> Result<Form, Stop>
-    ensures { GivesIn form_tree result symbols.new (at.plain_at (table_tree symbols.old) (scope_tree scope.now) (raw_term_tree raw.entry.now)) }
+    ensures { GivesIn form_tree result symbols.new
+        (at.plain_at (table_tree symbols.old) (scope_tree scope.now) (raw_term_tree raw.entry.now)) }
 {
     let found = expression_in(alloc, symbols, scope, Place::Formula, raw)?;
     as_formula(alloc, found)
@@ -96,7 +97,8 @@ fn left_in<'a>(
     scope: &[Variable],
     raw: &'a RawTerm,
 ) -> Result<Side, Stop>
-    ensures { GivesIn side_tree result symbols.new (at.left_at (table_tree symbols.old) (scope_tree scope.now) (raw_term_tree raw.entry.now)) }
+    ensures { GivesIn side_tree result symbols.new
+        (at.left_at (table_tree symbols.old) (scope_tree scope.now) (raw_term_tree raw.entry.now)) }
 {
     let found = expression_in(alloc, symbols, scope, Place::Term, raw)?;
     side_of(alloc, found)
@@ -104,7 +106,9 @@ fn left_in<'a>(
 
 // The equality of the sides, under as many binders.
 fn equal(alloc: Global, depth: usize, side: Side, other: Term) -> Result<Form, Stop>
-    ensures { Gives form_tree result (Ok (tree.Form.equal (statements.indexed depth (side_tree side).type) (side_tree side).term (term_tree other))) }
+    ensures { Gives form_tree result
+        (Ok (tree.Form.equal (statements.indexed depth (side_tree side).type) (side_tree side).term
+        (term_tree other))) }
 {
     let Side { ty, term } = side;
     Ok(Form::Equal(indexed(alloc, &ty, depth)?, term, other))
@@ -119,7 +123,9 @@ fn equality<'a>(
     left: &'a RawTerm,
     right: &'a RawTerm,
 ) -> Result<Form, Stop>
-    ensures { GivesIn form_tree result symbols.new (at.equality_at (table_tree symbols.old) (scope_tree scope.now) (raw_term_tree left.entry.now) (raw_term_tree right.entry.now)) }
+    ensures { GivesIn form_tree result symbols.new
+        (at.equality_at (table_tree symbols.old) (scope_tree scope.now) (raw_term_tree left.entry.now)
+        (raw_term_tree right.entry.now)) }
 {
     let side = left_in(alloc, symbols, scope, left)?;
     let other = term_in(alloc, symbols, scope, &side.ty, right)?;
@@ -133,7 +139,9 @@ fn connected(
     left: Form,
     right: Form,
 ) -> Result<Form, AllocError>
-    ensures { IfOk result (λ f. form_tree f ≡ tree.Form.binary (written.connective_of (connective_tree connective)) (form_tree left) (form_tree right)) }
+    ensures { IfOk result
+        (λ f. form_tree f ≡ tree.Form.binary (written.connective_of (connective_tree connective)) (form_tree left)
+        (form_tree right)) }
 {
     let left = Boxed::new(alloc, left)?;
     let right = Boxed::new(alloc, right)?;
@@ -170,7 +178,9 @@ fn of_written<'a>(
     front: bool,
     ty: &'a RawType,
 ) -> Result<Binder, Stop>
-    ensures { Gives binder_tree result (typing.of_written (table_tree symbols.now) (scope_tree scope.now) (quantifier_tree quantifier) front (raw_type_tree ty.now)) }
+    ensures { Gives binder_tree result
+        (typing.of_written (table_tree symbols.now) (scope_tree scope.now) (quantifier_tree quantifier) front
+        (raw_type_tree ty.now)) }
 {
     match ty {
         RawType::Kind => type_quantifier(quantifier, front),
@@ -190,7 +200,9 @@ fn binder_in<'a>(
     front: bool,
     ty: &'a Option<RawType>,
 ) -> Result<Binder, Stop>
-    ensures { Gives binder_tree result (typing.binder_in (table_tree symbols.now) (scope_tree scope.now) (quantifier_tree quantifier) front (option_map raw_type_tree ty.now)) }
+    ensures { Gives binder_tree result
+        (typing.binder_in (table_tree symbols.now) (scope_tree scope.now) (quantifier_tree quantifier) front
+        (option_map raw_type_tree ty.now)) }
 {
     match ty {
         None => Ok(Binder::OfTerm(individual(alloc))),
@@ -215,7 +227,8 @@ fn bound(
     binder: Binder,
     body: Form,
 ) -> Result<Form, AllocError>
-    ensures { IfOk result (λ f. form_tree f ≡ at.bind_at (quantifier_tree quantifier) (binder_tree binder) (form_tree body)) }
+    ensures { IfOk result
+        (λ f. form_tree f ≡ at.bind_at (quantifier_tree quantifier) (binder_tree binder) (form_tree body)) }
 {
     let body = Boxed::new(alloc, body)?;
     Ok(match binder {
@@ -245,7 +258,8 @@ pub fn form_in<'a>(
     front: bool,
     raw: &'a RawForm,
 ) -> Result<Form, Stop>
-    ensures typed { GivesIn form_tree result symbols.new (at.form_at (table_tree symbols.old) (scope_tree scope.old.items) front (raw_form_tree raw.entry.now)) }
+    ensures typed { GivesIn form_tree result symbols.new
+        (at.form_at (table_tree symbols.old) (scope_tree scope.old.items) front (raw_form_tree raw.entry.now)) }
     ensures scope { OnOk result (scope.new.items ≡ scope.old.items) }
 {
     match raw {
@@ -326,7 +340,9 @@ fn negation<'a>(
     scope: &mut Vec<Variable<'a>>,
     body: &'a RawForm,
 ) -> Result<Form, Stop>
-    ensures typed { GivesIn form_tree result symbols.new (at.form_at (table_tree symbols.old) (scope_tree scope.old.items) false (raw.RawForm.negation (raw_form_tree body.entry.now))) }
+    ensures typed { GivesIn form_tree result symbols.new
+        (at.form_at (table_tree symbols.old) (scope_tree scope.old.items) false
+        (raw.RawForm.negation (raw_form_tree body.entry.now))) }
     ensures scope { OnOk result (scope.new.items ≡ scope.old.items) }
 {
     let form = form_in(alloc, symbols, scope, false, body)?;
@@ -342,7 +358,10 @@ fn binary<'a>(
     first: &'a RawForm,
     second: &'a RawForm,
 ) -> Result<Form, Stop>
-    ensures typed { GivesIn form_tree result symbols.new (at.form_at (table_tree symbols.old) (scope_tree scope.old.items) false (raw.RawForm.binary (connective_tree connective) (raw_form_tree first.entry.now) (raw_form_tree second.entry.now))) }
+    ensures typed { GivesIn form_tree result symbols.new
+        (at.form_at (table_tree symbols.old) (scope_tree scope.old.items) false
+        (raw.RawForm.binary (connective_tree connective) (raw_form_tree first.entry.now)
+        (raw_form_tree second.entry.now))) }
     ensures scope { OnOk result (scope.new.items ≡ scope.old.items) }
 {
     let left = form_in(alloc, symbols, scope, false, first)?;
@@ -361,7 +380,10 @@ fn quantified<'a>(
     variable: &'a RawVar,
     body: &'a RawForm,
 ) -> Result<Form, Stop>
-    ensures typed { GivesIn form_tree result symbols.new (at.form_at (table_tree symbols.old) (scope_tree scope.old.items) front (raw.RawForm.quantified (quantifier_tree quantifier) (raw_variable_tree variable.entry.now) (raw_form_tree body.entry.now))) }
+    ensures typed { GivesIn form_tree result symbols.new
+        (at.form_at (table_tree symbols.old) (scope_tree scope.old.items) front
+        (raw.RawForm.quantified (quantifier_tree quantifier) (raw_variable_tree variable.entry.now)
+        (raw_form_tree body.entry.now))) }
     ensures scope { OnOk result (scope.new.items ≡ scope.old.items) }
 {
     let depth = scope.len();

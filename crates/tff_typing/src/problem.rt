@@ -106,7 +106,9 @@ pub fn symbols_before(
     statements: &[GatheredStatement],
     number: usize,
 ) -> Result<zm_logic::Symbols, AllocError>
-    ensures { IfOk result (λ ss. map symbol_tree ss ≡ rules.symbols_if (rules.statements_in 0 rules.start (raw_statements (take number statements.now)))) }
+    ensures { IfOk result
+        (λ ss. map symbol_tree ss
+        ≡ rules.symbols_if (rules.statements_in 0 rules.start (raw_statements (take number statements.now)))) }
 {
     match state_of(alloc, first(statements, number)) {
         Ok(state) => symbols_from(alloc, &state.symbols),

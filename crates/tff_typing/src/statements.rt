@@ -34,7 +34,8 @@ fn premise_role(role: RawRole) -> Option<Role>
 
 // A formula outside of which no variable is bound.
 fn closed_form<'a>(alloc: Global, symbols: &mut Symbols<'a>, raw: &'a RawForm) -> Result<Form, Stop>
-    ensures { GivesIn form_tree result symbols.new (at.form_at (table_tree symbols.old) [] true (raw_form_tree raw.entry.now)) }
+    ensures { GivesIn form_tree result symbols.new
+        (at.form_at (table_tree symbols.old) [] true (raw_form_tree raw.entry.now)) }
 {
     let mut scope = Vec::new(alloc);
     form_in(alloc, symbols, &mut scope, true, raw)
@@ -49,7 +50,8 @@ fn premise<'a>(
     role: Role,
     raw: &'a RawForm,
 ) -> Result<(), Stop>
-    ensures { GivesState result state.new (at.formula_at (state_tree state.old) name.now (Some (role_tree role)) (raw_form_tree raw.entry.now)) }
+    ensures { GivesState result state.new
+        (at.formula_at (state_tree state.old) name.now (Some (role_tree role)) (raw_form_tree raw.entry.now)) }
 {
     let form = closed_form(alloc, &mut state.symbols, raw)?;
     let name = Text::of(alloc, name)?;
@@ -75,7 +77,8 @@ pub fn statement_in<'a>(
     state: &mut State<'a>,
     statement: &'a Statement,
 ) -> Result<(), Stop>
-    ensures { GivesState result state.new (at.statement_at (state_tree state.old) (statement_tree statement.entry.now)) }
+    ensures { GivesState result state.new
+        (at.statement_at (state_tree state.old) (statement_tree statement.entry.now)) }
 {
     match &statement.body {
         Body::Formula { name, role, form } => match premise_role(*role) {

@@ -60,13 +60,16 @@ pub struct Symbols<'a> {
     pub entries: IndexMap<Key<'a>, Declaration>,
     pub names: IndexSet<&'a str>,
     // The names are those of the symbols.
-    ghost same_names: { (x : List ℕ) → contains_by (λ k. bytes_eq x k.now) names ≡ list_any (λ e. bytes_eq x e.0.name.now) entries.entries },
+    ghost same_names: { (x : List ℕ)
+        → contains_by (λ k. bytes_eq x k.now) names ≡ list_any (λ e. bytes_eq x e.0.name.now) entries.entries },
 }
 
 // Notes a name, with room for one more.
 fn note<'a>(names: &mut IndexSet<&'a str>, name: &'a str)
     requires { 0 < spare names.old }
-    ensures { (x : List ℕ) → contains_by (λ k. bytes_eq x k.now) names.new ≡ (contains_by (λ k. bytes_eq x k.now) names.old || bytes_eq x name.entry.now) }
+    ensures { (x : List ℕ)
+        → contains_by (λ k. bytes_eq x k.now) names.new
+        ≡ (contains_by (λ k. bytes_eq x k.now) names.old || bytes_eq x name.entry.now) }
 {
     let _ = names.insert(name);
 }

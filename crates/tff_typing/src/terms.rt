@@ -50,7 +50,8 @@ fn as_term(alloc: Global, depth: usize, place: usize, binder: &Binder) -> Result
 
 // The variable of the name, in a term's or a formula's place.
 fn term_variable(alloc: Global, scope: &[Variable], name: &str) -> Result<Expression, Stop>
-    ensures { Gives expression_tree result (at.indexed_variable (length (scope_tree scope.now)) (variables.look_up (scope_tree scope.now) name.now)) }
+    ensures { Gives expression_tree result
+        (at.indexed_variable (length (scope_tree scope.now)) (variables.look_up (scope_tree scope.now) name.now)) }
 {
     match look_up(scope, name) {
         None => Err(Stop::Refused(Fault::Unbound)),
@@ -107,7 +108,9 @@ fn head_of<'a>(
     name: &'a str,
     parts: &'a [RawTerm],
 ) -> Result<Head, Stop>
-    ensures { GivesIn head_tree result symbols.new (at.head_at (table_tree symbols.old) (scope_tree scope.now) (place_tree place) name.entry.now (raw_terms_tree parts.entry.now)) }
+    ensures { GivesIn head_tree result symbols.new
+        (at.head_at (table_tree symbols.old) (scope_tree scope.now) (place_tree place) name.entry.now
+        (raw_terms_tree parts.entry.now)) }
 {
     let used = symbol_for(alloc, symbols, place, name, count(parts))?;
     let types = terms_as_types(alloc, symbols, scope, first(parts, used.types))?;
@@ -123,7 +126,9 @@ fn head_of<'a>(
 
 // The symbol at its types and arguments, under as many binders.
 fn applied(alloc: Global, depth: usize, head: Head, arguments: Terms) -> Result<Expression, Stop>
-    ensures { Gives expression_tree result (Ok (at.applied_at depth (head_tree head).number (head_tree head).types (terms_tree arguments) (head_tree head).sense)) }
+    ensures { Gives expression_tree result
+        (Ok (at.applied_at depth (head_tree head).number (head_tree head).types (terms_tree arguments)
+        (head_tree head).sense)) }
 {
     let Head {
         number,
@@ -153,7 +158,9 @@ pub fn expression_in<'a>(
     place: Place,
     raw: &'a RawTerm,
 ) -> Result<Expression, Stop>
-    ensures { GivesIn expression_tree result symbols.new (at.expression_at (table_tree symbols.old) (scope_tree scope.now) (place_tree place) (raw_term_tree raw.entry.now)) }
+    ensures { GivesIn expression_tree result symbols.new
+        (at.expression_at (table_tree symbols.old) (scope_tree scope.now) (place_tree place)
+        (raw_term_tree raw.entry.now)) }
 {
     match raw {
         RawTerm::Individual => Err(Stop::Refused(Fault::NotATerm)),
@@ -176,7 +183,9 @@ fn named<'a>(
     name: &'a str,
     parts: &'a [RawTerm],
 ) -> Result<Expression, Stop>
-    ensures { GivesIn expression_tree result symbols.new (at.named_at (table_tree symbols.old) (scope_tree scope.now) (place_tree place) name.entry.now (raw_terms_tree parts.entry.now)) }
+    ensures { GivesIn expression_tree result symbols.new
+        (at.named_at (table_tree symbols.old) (scope_tree scope.now) (place_tree place) name.entry.now
+        (raw_terms_tree parts.entry.now)) }
 {
     let head = head_of(alloc, symbols, scope, place, name, parts)?;
     let wanted = head.wanted.as_slice();
@@ -195,7 +204,9 @@ fn terms_in<'a>(
     skipped: usize,
     types: &[Ty],
 ) -> Result<Terms, Stop>
-    ensures { GivesIn terms_tree result symbols.new (at.terms_at (table_tree symbols.old) (scope_tree scope.now) skipped (types_tree types.now) (raw_terms_tree parts.entry.now)) }
+    ensures { GivesIn terms_tree result symbols.new
+        (at.terms_at (table_tree symbols.old) (scope_tree scope.now) skipped (types_tree types.now)
+        (raw_terms_tree parts.entry.now)) }
 {
     let mut all = Terms::new(alloc);
     for (i, part) in parts.iter().enumerate() {
@@ -220,7 +231,8 @@ pub fn term_in<'a>(
     ty: &Ty,
     raw: &'a RawTerm,
 ) -> Result<Term, Stop>
-    ensures { GivesIn term_tree result symbols.new (at.term_at (table_tree symbols.old) (scope_tree scope.now) (type_tree ty.now) (raw_term_tree raw.entry.now)) }
+    ensures { GivesIn term_tree result symbols.new
+        (at.term_at (table_tree symbols.old) (scope_tree scope.now) (type_tree ty.now) (raw_term_tree raw.entry.now)) }
 {
     let found = expression_in(alloc, symbols, scope, Place::Term, raw)?;
     wanted(alloc, ty, found)

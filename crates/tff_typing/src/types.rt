@@ -89,7 +89,8 @@ pub fn type_in<'a>(
     scope: &[Variable],
     raw: &'a RawType,
 ) -> Result<Ty, Stop>
-    ensures { Gives type_tree result (rules.type_in (table_tree symbols.now) (scope_tree scope.now) (raw_type_tree raw.now)) }
+    ensures { Gives type_tree result
+        (rules.type_in (table_tree symbols.now) (scope_tree scope.now) (raw_type_tree raw.now)) }
 {
     match raw {
         RawType::Individual => Ok(individual(alloc)),
@@ -112,7 +113,8 @@ fn types_in<'a>(
     scope: &[Variable],
     raws: &'a RawTypes,
 ) -> Result<Tys, Stop>
-    ensures { Gives types_tree result (rules.types_in (table_tree symbols.now) (scope_tree scope.now) (raw_types_tree raws.now)) }
+    ensures { Gives types_tree result
+        (rules.types_in (table_tree symbols.now) (scope_tree scope.now) (raw_types_tree raws.now)) }
 {
     let mut all = Tys::new(alloc);
     for raw in raws.as_slice() {
@@ -136,7 +138,8 @@ pub fn term_as_type<'a>(
     scope: &[Variable],
     raw: &'a RawTerm,
 ) -> Result<Ty, Stop>
-    ensures { Gives type_tree result (rules.type_in (table_tree symbols.now) (scope_tree scope.now) (written.as_type (raw_term_tree raw.now))) }
+    ensures { Gives type_tree result
+        (rules.type_in (table_tree symbols.now) (scope_tree scope.now) (written.as_type (raw_term_tree raw.now))) }
 {
     match raw {
         RawTerm::Individual => Ok(individual(alloc)),
@@ -159,7 +162,8 @@ pub fn terms_as_types<'a>(
     scope: &[Variable],
     raws: &'a [RawTerm],
 ) -> Result<Tys, Stop>
-    ensures { Gives types_tree result (rules.types_in (table_tree symbols.now) (scope_tree scope.now) (written.as_types (raw_terms_tree raws.now))) }
+    ensures { Gives types_tree result
+        (rules.types_in (table_tree symbols.now) (scope_tree scope.now) (written.as_types (raw_terms_tree raws.now))) }
 {
     let mut all = Tys::new(alloc);
     for raw in raws {

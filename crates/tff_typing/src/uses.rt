@@ -51,7 +51,8 @@ fn taken(alloc: Global, entry: Entry) -> Result<Use, Stop>
 
 // A term's or a formula's place takes a symbol that is no constructor.
 fn as_symbol(alloc: Global, entry: Entry) -> Result<Use, Stop>
-    ensures { Gives use_tree result (at.taken_if (entry_numbered entry.entry) (sense_tree entry.entry.declaration.now.sense)) }
+    ensures { Gives use_tree result
+        (at.taken_if (entry_numbered entry.entry) (sense_tree entry.entry.declaration.now.sense)) }
 {
     match entry.declaration.sense {
         Sense::Constructor => Err(Stop::Refused(Fault::NotATerm)),
@@ -89,7 +90,8 @@ fn first_use<'a>(
     parts: usize,
 ) -> Result<Use, Stop>
     requires { table.used (table_tree symbols.old) name.now parts ≡ None }
-    ensures { GivesIn use_tree result symbols.new (at.new_taken (table_tree symbols.old) (place_tree place) name.entry.now parts) }
+    ensures { GivesIn use_tree result symbols.new
+        (at.new_taken (table_tree symbols.old) (place_tree place) name.entry.now parts) }
 {
     let key = Key {
         name,
@@ -118,7 +120,9 @@ fn used_or_new<'a>(
     name: &'a str,
     parts: usize,
 ) -> Result<Use, Stop>
-    ensures { GivesIn use_tree result symbols.new (at.used_taken (table_tree symbols.old) (place_tree place) name.entry.now parts (table.used (table_tree symbols.old) name.entry.now parts)) }
+    ensures { GivesIn use_tree result symbols.new
+        (at.used_taken (table_tree symbols.old) (place_tree place) name.entry.now parts
+        (table.used (table_tree symbols.old) name.entry.now parts)) }
 {
     match symbols.used(name, parts) {
         Some(entry) => as_symbol(alloc, entry),
@@ -126,8 +130,8 @@ fn used_or_new<'a>(
     }
 }
 
-/// The symbol of a name with as many parts in a term's or a formula's place; the first use of a name that isn't declared
-/// adds it.
+/// The symbol of a name with as many parts in a term's or a formula's place; the first use of a name that isn't
+/// declared adds it.
 #[tactic(auto, using(crate::proofs::Gives::given_unchanged))]
 pub fn symbol_for<'a>(
     alloc: Global,
@@ -136,7 +140,8 @@ pub fn symbol_for<'a>(
     name: &'a str,
     parts: usize,
 ) -> Result<Use, Stop>
-    ensures { GivesIn use_tree result symbols.new (at.symbol_at (table_tree symbols.old) (place_tree place) name.entry.now parts) }
+    ensures { GivesIn use_tree result symbols.new
+        (at.symbol_at (table_tree symbols.old) (place_tree place) name.entry.now parts) }
 {
     match symbols.declared(name) {
         Some(entry) => with_parts(alloc, entry, parts),

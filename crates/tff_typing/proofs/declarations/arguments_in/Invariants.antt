@@ -6,4 +6,6 @@ use Rattle.tff_typing.specs.View.{table_tree, scope_tree}
 use Rattle.tff_typing.proofs.declarations.arguments_in.Given as goal
 
 abbrev pub invariant-loop-raw : goal.invariant-loop-raw
-invariant-loop-raw l = arguments_in (table_tree l.symbols) (scope_tree l.scope) l.kinds (raw_types_tree (take l.raw-index l.raw-items)) ≡ Ok (types_tree l.all)
+invariant-loop-raw l =
+    arguments_in (table_tree l.symbols) (scope_tree l.scope) l.kinds (raw_types_tree (take l.raw-index l.raw-items))
+    ≡ Ok (types_tree l.all)

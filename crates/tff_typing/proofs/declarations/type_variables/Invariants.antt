@@ -5,4 +5,5 @@ use Rattle.tff_typing.specs.View.{scope_tree}
 use Rattle.tff_typing.proofs.declarations.type_variables.Given as goal
 
 abbrev pub invariant-loop-variable : goal.invariant-loop-variable
-invariant-loop-variable l = type_variables [] (map raw_variable_tree (take l.variable-index l.variable-items)) ≡ Ok (scope_tree l.scope.items)
+invariant-loop-variable l =
+    type_variables [] (map raw_variable_tree (take l.variable-index l.variable-items)) ≡ Ok (scope_tree l.scope.items)

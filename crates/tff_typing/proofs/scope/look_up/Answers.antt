@@ -8,7 +8,19 @@ loop-i-preserved c =
     let v = c.index-scope-i.result in
     elim c.if-eq.branch [
       | then-eq w ↦
-          rw w.found-is (record { within = c.loop-i-test.true; found = look_up_hit c.args.scope.now c.loop-i.i v c.args.name.now c.loop-i-test.true c.index-scope-i.is (sym c.eq.ensures ∙ w.if-eq.true) })
+          rw w.found-is
+          (record {
+            within = c.loop-i-test.true;
+            found =
+                look_up_hit c.args.scope.now c.loop-i.i v c.args.name.now c.loop-i-test.true c.index-scope-i.is
+                (sym c.eq.ensures ∙ w.if-eq.true);
+          })
       | else-eq w ↦
-          rw w.found-is (record { within = c.loop-i.invariant.within; found = look_up_miss c.args.scope.now c.loop-i.i v c.args.name.now c.loop-i.found c.loop-i-test.true c.index-scope-i.is (sym c.eq.ensures ∙ w.if-eq.false) c.loop-i.invariant.found })
+          rw w.found-is
+          (record {
+            within = c.loop-i.invariant.within;
+            found =
+                look_up_miss c.args.scope.now c.loop-i.i v c.args.name.now c.loop-i.found c.loop-i-test.true
+                c.index-scope-i.is (sym c.eq.ensures ∙ w.if-eq.false) c.loop-i.invariant.found;
+          })
     ]

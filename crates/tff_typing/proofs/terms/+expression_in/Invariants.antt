@@ -7,5 +7,6 @@ use Rattle.tff_typing.proofs.terms.+expression_in.Given as goal
 
 abbrev pub invariant-terms_in-loop-i : goal.invariant-terms_in-loop-i
 invariant-terms_in-loop-i l =
-    terms_at (table_tree l.fn.symbols) (scope_tree l.scope) l.skipped (types_tree l.types) (raw_terms_tree (take l.i l.parts))
+    terms_at (table_tree l.fn.symbols) (scope_tree l.scope) l.skipped (types_tree l.types)
+    (raw_terms_tree (take l.i l.parts))
     ≡ Ok (record { tree = terms_tree l.all; table = table_tree l.symbols })

@@ -8,4 +8,5 @@ use Rattle.tff_typing.proofs.types.+term_as_type.Given as goal
 
 abbrev pub invariant-terms_as_types-loop-raw : goal.invariant-terms_as_types-loop-raw
 invariant-terms_as_types-loop-raw l =
-    types_in (table_tree l.symbols) (scope_tree l.scope) (as_types (raw_terms_tree (take l.raw-index l.raws))) ≡ Ok (types_tree l.all)
+    types_in (table_tree l.symbols) (scope_tree l.scope) (as_types (raw_terms_tree (take l.raw-index l.raws)))
+    ≡ Ok (types_tree l.all)

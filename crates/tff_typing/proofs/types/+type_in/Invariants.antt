@@ -7,4 +7,5 @@ use Rattle.tff_typing.proofs.types.+type_in.Given as goal
 
 abbrev pub invariant-types_in-loop-raw : goal.invariant-types_in-loop-raw
 invariant-types_in-loop-raw l =
-    types_in (table_tree l.symbols) (scope_tree l.scope) (raw_types_tree (take l.raw-index l.raw-items)) ≡ Ok (types_tree l.all)
+    types_in (table_tree l.symbols) (scope_tree l.scope) (raw_types_tree (take l.raw-index l.raw-items))
+    ≡ Ok (types_tree l.all)

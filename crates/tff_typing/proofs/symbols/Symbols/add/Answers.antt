@@ -9,7 +9,8 @@ invariant_of-self-2 c =
     let e = c.in_ok-insert.ensures.entries ∙ entry_last _ c.args.key c.args.declaration es n in
     record {
       same_names = λ x.
-          names_follow x c.args.self.now.names.keys c.reserve.new.self.keys c.note.new.names.keys es c.insert.new.self.entries c.args.key c.args.declaration
+          names_follow x c.args.self.now.names.keys c.reserve.new.self.keys c.note.new.names.keys es
+          c.insert.new.self.entries c.args.key c.args.declaration
           (c.note.ensures x) c.in_ok-reserve.ensures.keys (c.args.self.now.same_names x) e;
     }
 
