@@ -1,5 +1,7 @@
 pub mod Lists
 pub mod Loops
+pub mod Indexing
+pub mod Unmatched
 pub mod Sources
 pub mod Offered
 pub mod Derived

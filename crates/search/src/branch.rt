@@ -10,7 +10,7 @@ ghost use Rattle.search.specs.Tableau.{root};
 
 use crate::prints::print;
 use indexmap::IndexMap;
-use sqlite_items::{Boxed, Items};
+use sqlite_items::{Boxed, Items, at};
 use std::alloc::{AllocError, Global};
 use std::marker::Model;
 use zm_logic::{Form, Problem};
@@ -56,7 +56,7 @@ fn stands_in(forms: &[Form], form: &Form) -> bool
 fn stands_at(forms: &[Form], place: usize, form: &Form) -> bool
     ensures { result ≡ true → same.has (map form_tree forms.now) (form_tree form.now) ≡ true }
 {
-    match forms.get(place) {
+    match at(forms, place) {
         Some(g) => g.same(form),
         None => false,
     }
@@ -89,6 +89,16 @@ fn forget(places: &mut IndexMap<u32, usize>, print: u32, place: usize)
 {
     if !is_before(places, print, place) {
         places.swap_remove(&print);
+    }
+}
+
+/// Takes the last formula off a list, if there is one, and its print out of the index of the list.
+fn drop_last(forms: &mut Items<Form>, places: &mut IndexMap<u32, usize>)
+    ensures forms { forms.new ≡ take (length forms.old - 1) forms.old }
+    ensures places { KeepsBelow (length forms.new) (get nat_eq places.old) (get nat_eq places.new) }
+{
+    if let Some(form) = forms.pop() {
+        forget(places, print(&form), forms.len());
     }
 }
 
@@ -148,10 +158,7 @@ impl Branch {
     fn pop(&mut self)
         ensures { self.new ≡ take (length self.old - 1) self.old }
     {
-        if let Some(form) = self.forms.pop() {
-            let place = self.forms.len();
-            forget(&mut self.places, print(&form), place);
-        }
+        drop_last(&mut self.forms, &mut self.places);
     }
 
     /// Puts a formula on the branch, unless it stands there.

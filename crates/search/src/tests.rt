@@ -183,3 +183,35 @@ fn counts_no_further_than_the_greatest_number(rt: HostRuntime) -> Result<(), Fai
     assert_eq!(rt; (weight(&problem), need(&problem)), (391, u128::MAX));
     Ok(())
 }
+
+/// The problem with as many letters as premises, each once, and another letter as its conjecture.
+fn letters(alloc: Global, count: u32) -> Result<Problem, AllocError>
+    ensures { IfOk result (λ p. IsPropositionalProblem (problem_tree p)) }
+{
+    let mut problem = goal(alloc, letter(alloc, 0)?);
+    for number in 1..count {
+        let name = Text::of(alloc, "a")?;
+        let role = Role::Axiom;
+        let form = letter(alloc, number)?.into_inner();
+        problem.premises.push(Premise { name, role, form })?;
+    }
+    Ok(problem)
+}
+
+#[test]
+fn goes_through_many_formulas(rt: HostRuntime) -> Result<(), Fail> {
+    let alloc = rt.alloc();
+    let problem = letters(alloc, 4_096)?;
+    match search(alloc, &problem, 100)? {
+        Searched::Open(tableau, Why::Saturated) => {
+            let valuation = valuation_of(alloc, &tableau, &problem)?;
+            let mut true_ones = 0;
+            for valued in valuation.as_slice() {
+                true_ones += usize::from(valued.truth);
+            }
+            assert_eq!(rt; (valuation.len(), true_ones), (4_096, 4_095));
+        }
+        _ => assert!(rt; false, "not saturated"),
+    }
+    Ok(())
+}
