@@ -17,3 +17,4 @@ pub mod Ground
 pub mod Load
 pub mod Bound
 pub mod Counted
+pub mod Assumed

@@ -71,11 +71,7 @@ fn enter(alloc: Global, node: &Node, branch: &mut Branch) -> Result<bool, AllocE
 }
 
 #[cycle(enter)]
-fn enter_one(
-    alloc: Global,
-    children: &[Child],
-    branch: &mut Branch,
-) -> Result<bool, AllocError>
+fn enter_one(alloc: Global, children: &[Child], branch: &mut Branch) -> Result<bool, AllocError>
     ensures entered { IfOk result (λ found. (d : ℕ) → IsEntered found (map form_tree branch.new) (current_of (map form_tree branch.old) d (children_tree children.now))) }
     ensures kept { IfOk result (λ found. found ≡ false → branch.new ≡ branch.old) }
 {
