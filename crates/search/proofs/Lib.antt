@@ -1,5 +1,7 @@
 pub mod Lists
 pub mod Loops
+pub mod Indexing
+pub mod Unmatched
 pub mod Sources
 pub mod Offered
 pub mod Derived
@@ -15,3 +17,4 @@ pub mod Ground
 pub mod Load
 pub mod Bound
 pub mod Counted
+pub mod Assumed

@@ -1,5 +1,7 @@
 pub mod Propositional
 pub mod Branch
+pub mod Prints
+pub mod Index
 pub mod RawOffers
 pub mod Offers
 pub mod Tableau

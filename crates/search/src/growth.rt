@@ -6,7 +6,7 @@ ghost use Rattle.search.specs.Offers.{make_children};
 ghost use Rattle.search.specs.Tableau.{IsOfferAt, given};
 ghost use Rattle.search.specs.Grown.{IsGrown, AreGrown, IsNext};
 
-use crate::branch::{copied, cut, extend};
+use crate::branch::{Branch, copied};
 use crate::closing::closing_pair;
 use crate::node::{Child, Node, Why};
 use crate::offer::{Offer, first_offer};
@@ -45,7 +45,7 @@ fn stopped(why: Why) -> Grown
 #[cycle(grow)]
 pub fn grow(
     alloc: Global,
-    branch: &mut Items<Form>,
+    branch: &mut Branch,
     from: usize,
     above: u32,
     left: &mut u32,
@@ -56,13 +56,13 @@ pub fn grow(
     ensures grown { IfOk result (λ g. IsGrown (map form_tree branch.old) above left.old left.new (node_tree g.node) (cause g.why)) }
     ensures kept { OnOk result (branch.new ≡ branch.old) }
 {
-    if let Some(pair) = closing_pair(alloc, branch.as_slice(), from)? {
+    if let Some(pair) = closing_pair(alloc, branch, from)? {
         return Ok(Grown {
             node: Node::Closed(pair),
             why: None,
         });
     }
-    let Some(offer) = first_offer(alloc, branch.as_slice())? else {
+    let Some(offer) = first_offer(alloc, branch)? else {
         return Ok(stopped(Why::Saturated));
     };
     if *left == 0 {
@@ -79,7 +79,7 @@ pub fn grow(
 #[cycle(grow)]
 fn step(
     alloc: Global,
-    branch: &mut Items<Form>,
+    branch: &mut Branch,
     offer: Boxed<Offer>,
     above: u32,
     left: &mut u32,
@@ -109,7 +109,7 @@ fn step(
 #[cycle(grow)]
 fn grow_all(
     alloc: Global,
-    branch: &mut Items<Form>,
+    branch: &mut Branch,
     children: &[Items<Form>],
     above: u32,
     left: &mut u32,
@@ -143,7 +143,7 @@ fn grow_all(
 #[cycle(grow)]
 fn next_node(
     alloc: Global,
-    branch: &mut Items<Form>,
+    branch: &mut Branch,
     forms: &[Form],
     above: u32,
     left: &mut u32,
@@ -165,7 +165,7 @@ fn next_node(
 #[tactic(auto, using(crate::proofs::Places::grown_closing))]
 fn grow_child(
     alloc: Global,
-    branch: &mut Items<Form>,
+    branch: &mut Branch,
     forms: &[Form],
     above: u32,
     left: &mut u32,
@@ -176,8 +176,8 @@ fn grow_child(
     ensures kept { OnOk result (branch.new ≡ branch.old) }
 {
     let from = branch.len();
-    extend(alloc, branch, forms)?;
+    branch.extend(alloc, forms)?;
     let grown = grow(alloc, branch, from, above, left);
-    cut(branch, from);
+    branch.cut(from);
     grown
 }

@@ -7,6 +7,7 @@ mod growth;
 mod measures;
 mod node;
 mod offer;
+mod prints;
 mod run;
 mod tableau;
 #[cfg(test)]

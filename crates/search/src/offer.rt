@@ -7,7 +7,7 @@ ghost use Rattle.search.specs.Offers as spec;
 ghost use Rattle.search.specs.Tableau.{IsOfferAt};
 ghost use Rattle.search.specs.View.{kind_tree, act_tree, forms_trees};
 
-use crate::branch::{has, one, signed};
+use crate::branch::{Branch, one, signed};
 use crate::node::{Act, Kind};
 use sqlite_items::{Boxed, Items};
 use std::alloc::{AllocError, Global};
@@ -117,11 +117,11 @@ fn split(alloc: Global, form: &Form) -> Result<Items<Items<Form>>, AllocError>
     }
 }
 
-fn has_all(branch: &[Form], forms: &[Form]) -> bool
+fn has_all(branch: &Branch, forms: &[Form]) -> bool
     ensures { result ≡ spec.has_all (map form_tree branch.now) (map form_tree forms.now) }
 {
     for f in forms {
-        if !has(branch, f) {
+        if !branch.has(f) {
             return false;
         }
     }
@@ -129,7 +129,7 @@ fn has_all(branch: &[Form], forms: &[Form]) -> bool
 }
 
 /// Whether some child has all its formulas on the branch.
-fn has_some(branch: &[Form], children: &[Items<Form>]) -> bool
+fn has_some(branch: &Branch, children: &[Items<Form>]) -> bool
     ensures { result ≡ spec.has_some (map form_tree branch.now) (forms_trees children.now) }
 {
     for c in children {
@@ -165,10 +165,10 @@ fn offering(alloc: Global, on: &Form, children: Items<Items<Form>>) -> Result<Of
 }
 
 /// The first offer of a branch, if it has one.
-pub fn first_offer(alloc: Global, branch: &[Form]) -> Result<Option<Boxed<Offer>>, AllocError>
+pub fn first_offer(alloc: Global, branch: &Branch) -> Result<Option<Boxed<Offer>>, AllocError>
     ensures { IfOk result (λ r. MatchOption r (spec.offers (map form_tree branch.now) ≡ []) (λ o. IsOfferAt (map form_tree branch.now) 0 (kind_tree o.kind) (act_tree o.act) (spec.make_children (forms_trees o.children)))) }
 {
-    for f in branch {
+    for f in branch.forms() {
         let children = split(alloc, f)?;
         if !children.is_empty() && !has_some(branch, children.as_slice()) {
             return Ok(Some(Boxed::new(alloc, offering(alloc, f, children)?)?));

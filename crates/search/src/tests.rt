@@ -1,11 +1,13 @@
-ghost use Rattle.std.specs.Prelude.{IfOk};
+ghost use Rattle.std.specs.Prelude.{IfOk, OnOk};
 ghost use Rattle.zm_logic.specs.View.{form_tree, problem_tree};
 ghost use Rattle.search.specs.Propositional.{IsPropositional, IsPropositionalProblem};
 
+use crate::branch::Branch;
 use crate::measures::{need, weight};
 use crate::node::Why;
+use crate::prints::print;
 use crate::run::{Searched, search};
-use crate::valued::valuation_of;
+use crate::valued::{Valued, valuation_of};
 use sqlite_items::{Boxed, Items};
 use std::alloc::{AllocError, Global};
 use std::test::Fail;
@@ -181,5 +183,76 @@ fn counts_no_further_than_the_greatest_number(rt: HostRuntime) -> Result<(), Fai
         conjecture: chain.into_inner(),
     };
     assert_eq!(rt; (weight(&problem), need(&problem)), (391, u128::MAX));
+    Ok(())
+}
+
+/// Adds a premise to a problem.
+#[tactic(auto, using(crate::proofs::Assumed::assumed))]
+fn assume(alloc: Global, problem: &mut Problem, form: Boxed<Form>) -> Result<(), AllocError>
+    requires problem { IsPropositionalProblem (problem_tree problem.old) }
+    requires form { IsPropositional (form_tree form) }
+    ensures { OnOk result (IsPropositionalProblem (problem_tree problem.new)) }
+{
+    let name = Text::of(alloc, "a")?;
+    let role = Role::Axiom;
+    let form = form.into_inner();
+    problem.premises.push(Premise { name, role, form })
+}
+
+/// The problem with as many letters as premises, each once, and another letter as its conjecture.
+fn letters(alloc: Global, count: u32) -> Result<Problem, AllocError>
+    ensures { IfOk result (λ p. IsPropositionalProblem (problem_tree p)) }
+{
+    let mut problem = goal(alloc, letter(alloc, count)?);
+    for number in 0..count {
+        assume(alloc, &mut problem, letter(alloc, number)?)?;
+    }
+    Ok(problem)
+}
+
+/// How many of the atoms are true.
+fn true_ones(valuation: &[Valued]) -> usize {
+    valuation.iter().filter(|valued| valued.truth).count()
+}
+
+#[test]
+fn goes_through_many_formulas(rt: HostRuntime) -> Result<(), Fail> {
+    let alloc = rt.alloc();
+    let problem = letters(alloc, 4_096)?;
+    match search(alloc, &problem, 100)? {
+        Searched::Open(tableau, Why::Saturated) => {
+            let valuation = valuation_of(alloc, &tableau, &problem)?;
+            let valuation = valuation.as_slice();
+            assert_eq!(rt; (valuation.len(), true_ones(valuation)), (4_097, 4_096));
+        }
+        _ => assert!(rt; false, "not saturated"),
+    }
+    Ok(())
+}
+
+fn either(alloc: Global, left: u32, right: u32) -> Formula {
+    or(alloc, letter(alloc, left)?, letter(alloc, right)?)
+}
+
+/// Whether a branch of the first formula has the second, how long it is with the second too, and whether it has the second
+/// once that is cut off.
+fn beside(alloc: Global, first: &Form, second: &Form) -> Result<(bool, usize, bool), AllocError> {
+    let mut branch = Branch::new(alloc);
+    branch.add(alloc, first)?;
+    let before = branch.has(second);
+    branch.add(alloc, second)?;
+    let len = branch.len();
+    branch.cut(1);
+    Ok((before, len, branch.has(second)))
+}
+
+#[test]
+fn tells_formulas_of_one_print_apart(rt: HostRuntime) -> Result<(), Fail> {
+    let alloc = rt.alloc();
+    let first = either(alloc, 34_575, 12_492)?;
+    let second = either(alloc, 42_352, 20_865)?;
+    assert_eq!(rt; print(first.get()), print(second.get()));
+    let apart = beside(alloc, first.get(), second.get())?;
+    assert_eq!(rt; apart, (false, 2, false));
     Ok(())
 }

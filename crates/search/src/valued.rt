@@ -8,7 +8,7 @@ ghost use Rattle.search.specs.Valuation as spec;
 ghost use Rattle.search.specs.View.{node_tree, children_tree, tree_of, valued_tree};
 ghost use Rattle.search.specs.Grown.{IsEntered};
 
-use crate::branch::{add, cut, extend, has, root_branch};
+use crate::branch::{Branch, root_branch};
 use crate::node::{Child, Node};
 use crate::tableau::{Open, Tableau};
 use sqlite_items::Items;
@@ -40,17 +40,17 @@ pub fn valuation_of(
     let mut branch = root_branch(alloc, problem)?;
     enter(alloc, tableau.root(), &mut branch)?;
     let atoms = problem_atoms(alloc, problem)?;
-    values_on(alloc, branch.as_slice(), atoms.as_slice())
+    values_on(alloc, &branch, atoms.forms())
 }
 
 /// Each of the atoms, true exactly where it stands on the branch.
-fn values_on(alloc: Global, branch: &[Form], atoms: &[Form]) -> Result<Valuation, AllocError>
+fn values_on(alloc: Global, branch: &Branch, atoms: &[Form]) -> Result<Valuation, AllocError>
     ensures { IfOk result (λ v. map valued_tree v ≡ map (spec.value_on (map form_tree branch.now)) (map form_tree atoms.now)) }
 {
     let mut all = Items::new(alloc);
     for a in atoms {
         let atom = a.copy(alloc)?;
-        let truth = has(branch, a);
+        let truth = branch.has(a);
         all.push(Valued { atom, truth })?;
     }
     Ok(all)
@@ -59,7 +59,7 @@ fn values_on(alloc: Global, branch: &[Form], atoms: &[Form]) -> Result<Valuation
 /// Goes from the branch of a node to that of its first Open leaf. Where there is none, it answers false, and the branch is
 /// as before.
 #[cycle(enter)]
-fn enter(alloc: Global, node: &Node, branch: &mut Items<Form>) -> Result<bool, AllocError>
+fn enter(alloc: Global, node: &Node, branch: &mut Branch) -> Result<bool, AllocError>
     ensures entered { IfOk result (λ found. (d : ℕ) → IsEntered found (map form_tree branch.new) (current (map form_tree branch.old) d (node_tree node.now))) }
     ensures kept { IfOk result (λ found. found ≡ false → branch.new ≡ branch.old) }
 {
@@ -71,30 +71,26 @@ fn enter(alloc: Global, node: &Node, branch: &mut Items<Form>) -> Result<bool, A
 }
 
 #[cycle(enter)]
-fn enter_one(
-    alloc: Global,
-    children: &[Child],
-    branch: &mut Items<Form>,
-) -> Result<bool, AllocError>
+fn enter_one(alloc: Global, children: &[Child], branch: &mut Branch) -> Result<bool, AllocError>
     ensures entered { IfOk result (λ found. (d : ℕ) → IsEntered found (map form_tree branch.new) (current_of (map form_tree branch.old) d (children_tree children.now))) }
     ensures kept { IfOk result (λ found. found ≡ false → branch.new ≡ branch.old) }
 {
     let len = branch.len();
     for child in children {
-        extend(alloc, branch, child.normal.as_slice())?;
+        branch.extend(alloc, child.normal.as_slice())?;
         if enter(alloc, &child.node, branch)? {
             return Ok(true);
         }
-        cut(branch, len);
+        branch.cut(len);
     }
     Ok(false)
 }
 
 /// The distinct atoms of a problem, in order of first appearance in the premises in order and then the conjecture.
-fn problem_atoms(alloc: Global, problem: &Problem) -> Result<Items<Form>, AllocError>
+fn problem_atoms(alloc: Global, problem: &Problem) -> Result<Branch, AllocError>
     ensures { IfOk result (λ all. map form_tree all ≡ spec.problem_atoms (problem_tree problem.now)) }
 {
-    let mut all = Items::new(alloc);
+    let mut all = Branch::new(alloc);
     for premise in problem.premises.as_slice() {
         add_atoms(alloc, &premise.form, &mut all)?;
     }
@@ -104,11 +100,11 @@ fn problem_atoms(alloc: Global, problem: &Problem) -> Result<Items<Form>, AllocE
 
 /// Adds the atoms of a formula to a list, but for those that stand there.
 #[cycle(add_atoms)]
-fn add_atoms(alloc: Global, form: &Form, all: &mut Items<Form>) -> Result<(), AllocError>
+fn add_atoms(alloc: Global, form: &Form, all: &mut Branch) -> Result<(), AllocError>
     ensures { OnOk result (map form_tree all.new ≡ spec_extend (map form_tree all.old) (spec.atoms (form_tree form.now))) }
 {
     match form {
-        Form::Atom(_, _, _) => add(alloc, all, form),
+        Form::Atom(_, _, _) => all.add(alloc, form),
         Form::Not(f) => add_atoms(alloc, f.get(), all),
         Form::And(f, g) | Form::Or(f, g) | Form::Imp(f, g) | Form::Iff(f, g) => {
             add_atoms(alloc, f.get(), all)?;

@@ -30,7 +30,7 @@ grow_all-loop-forms-preserved t c =
 pub grow_child-grow-grown-requires : goal.grow_child-grow-grown-requires
 grow_child-grow-grown-requires t c =
     let b = c.args.branch.now in
-    let below = c.extend.new.branch in
+    let below = c.extend.new.self in
     let n : c.len-from.result ≡ length b = c.len-from.ensures in
     let kept : take (length b) below ≡ b = c.in_ok-extend.ensures.kept in
     let within : length b ≤ length below = omega (arith, length-take (length b) below, ap length kept) in
