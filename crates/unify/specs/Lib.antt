@@ -1,0 +1,4 @@
+pub mod Substitution
+pub mod Equation
+pub mod Binding
+pub mod Unification
