@@ -41,26 +41,26 @@ mutual
   pub occur_types : (m : ℕ) (ts : Tys) → LackTypeMeta m ts ⊎ ((a : Substitution) → type_weight (a.type m) ≤ types_weight (put_types a ts))
   occur_types m Tys.none = inl tt
   occur_types m (Tys.more t ts) = elim (occurs_type m t) [
-      | inr x ↦ inr (λ a. omega (arith, x a))
-      | inl x ↦ elim (occur_types m ts) [ inl y ↦ inl (x, y) | inr y ↦ inr (λ a. omega (arith, y a)) ]
-    ]
+    | inr x ↦ inr (λ a. omega (arith, x a))
+    | inl x ↦ elim (occur_types m ts) [ inl y ↦ inl (x, y) | inr y ↦ inr (λ a. omega (arith, y a)) ]
+  ]
 
 mutual
   pub occurs_term : (m : ℕ) (k : Ty) (t : Term) → LacksTermMeta m k t ⊎ ((a : Substitution) → term_weight (a.term m k) ≤ term_weight (put_term a t))
   occurs_term m k (Term.bound i) = inl tt
   occurs_term m k (Term.eps i t) = inl tt
   occurs_term m k (Term.meta n t) = elim (same_meta_tells n m t k) [
-      | inl x ↦ inr (λ a. subst (λ y. term_weight (a.term m k) ≤ term_weight (put_term a y)) (sym x.1) (omega arith))
-      | inr x ↦ inl x.1
-    ]
+    | inl x ↦ inr (λ a. subst (λ y. term_weight (a.term m k) ≤ term_weight (put_term a y)) (sym x.1) (omega arith))
+    | inr x ↦ inl x.1
+  ]
   occurs_term m k (Term.app f ts us) = elim (occur_terms m k us) [ inl x ↦ inl x | inr x ↦ inr (λ a. omega (arith, x a)) ]
 
   pub occur_terms : (m : ℕ) (k : Ty) (us : Terms) → LackTermMeta m k us ⊎ ((a : Substitution) → term_weight (a.term m k) ≤ terms_weight (put_terms a us))
   occur_terms m k Terms.none = inl tt
   occur_terms m k (Terms.more t ts) = elim (occurs_term m k t) [
-      | inr x ↦ inr (λ a. omega (arith, x a))
-      | inl x ↦ elim (occur_terms m k ts) [ inl y ↦ inl (x, y) | inr y ↦ inr (λ a. omega (arith, y a)) ]
-    ]
+    | inr x ↦ inr (λ a. omega (arith, x a))
+    | inl x ↦ elim (occur_terms m k ts) [ inl y ↦ inl (x, y) | inr y ↦ inr (λ a. omega (arith, y a)) ]
+  ]
 
 pub data Variable : Type 0 where
   type : (number : ℕ) → Variable
@@ -182,9 +182,9 @@ module _ (vs ws : List Variable) (m : ℕ) (k : Ty) (keep : (u : Variable) → A
       term_put_in (Term.bound i) h = tt
       term_put_in (Term.eps i t) h = tt
       term_put_in (Term.meta n t) h = elim (same_meta_tells n m t k) [
-          | inl x ↦ rw x.0 g
-          | inr x ↦ rw x.0 (keep (Variable.term n t) h (λ e. (let p : n ≡ m = cc in let q : t ≡ k = cc in x.1 (cc))))
-        ]
+        | inl x ↦ rw x.0 g
+        | inr x ↦ rw x.0 (keep (Variable.term n t) h (λ e. (let p : n ≡ m = cc in let q : t ≡ k = cc in x.1 (cc))))
+      ]
       term_put_in (Term.app f ts us) h = (types_put_term_in ts h.0, terms_put_in us h.1)
 
       pub terms_put_in : (ts : Terms) → TermsIn vs ts → TermsIn ws (put_terms (only_term m k u) ts)

@@ -132,6 +132,7 @@ head_unbound_type (Binding.of_type m u ∷ bs) h t n e = go (head_unbound_type b
   where
     made : u ≡ Ty.meta n → LacksTypeBinding n (Binding.of_type m u ∷ bs)
     made x = let l = h.2 n x in (subst (LacksTypeMeta m) (ap (solved_type bs) x ∙ unbound_type bs n l) h.1, l)
+
     go : (head_type bs t ≡ Ty.meta n → LacksTypeBinding n bs) → (s : Ty) → head_type bs t ≡ s → if_type_meta m u s ≡ Ty.meta n → LacksTypeBinding n (Binding.of_type m u ∷ bs)
     go rest (Ty.bound i) r x = absurd cc
     go rest (Ty.param i) r x = absurd cc
@@ -145,6 +146,7 @@ head_unbound_term (Binding.of_term m k u ∷ bs) h t n j e = go (head_unbound_te
   where
     made : u ≡ Term.meta n j → LacksTermBinding n j (Binding.of_term m k u ∷ bs)
     made x = let l = h.2 n j x in (subst (LacksTermMeta m k) (ap (solved_term bs) x ∙ unbound_term bs n j l) h.1, l)
+
     go : (head_term bs t ≡ Term.meta n j → LacksTermBinding n j bs) → (s : Term) → head_term bs t ≡ s → if_term_meta m k u s ≡ Term.meta n j → LacksTermBinding n j (Binding.of_term m k u ∷ bs)
     go rest (Term.bound i) r x = absurd cc
     go rest (Term.eps i t) r x = absurd cc

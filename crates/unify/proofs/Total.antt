@@ -20,25 +20,25 @@ mutual
   pub term_decides : (s t : Term) → (s ≡ t) ⊎ (s ≢ t)
   term_decides (Term.bound i) (Term.bound j) = elim (eqb_tells i j) [ inl x ↦ inl (ap Term.bound x.1) | inr x ↦ inr (λ e. x.1 (cc)) ]
   term_decides (Term.eps n s) (Term.eps m t) = elim (eqb_tells n m) [
-      | inl x ↦ elim (same_type_tells s t) [ inl y ↦ (let p = x.1 in let q = y.1 in inl (cc)) | inr y ↦ inr (λ e. y.1 (cc)) ]
-      | inr x ↦ inr (λ e. x.1 (cc))
-    ]
+    | inl x ↦ elim (same_type_tells s t) [ inl y ↦ (let p = x.1 in let q = y.1 in inl (cc)) | inr y ↦ inr (λ e. y.1 (cc)) ]
+    | inr x ↦ inr (λ e. x.1 (cc))
+  ]
   term_decides (Term.meta n s) (Term.meta m t) = elim (same_meta_tells n m s t) [ inl x ↦ inl x.1 | inr x ↦ inr x.1 ]
   term_decides (Term.app f ss us) (Term.app g ts vs) = elim (eqb_tells f g) [
-      | inl x ↦ elim (same_types_tell ss ts) [
-          | inl y ↦ elim (terms_decide us vs) [ inl z ↦ (let p = x.1 in let q = y.1 in inl (cc)) | inr z ↦ inr (λ e. z (cc)) ]
-          | inr y ↦ inr (λ e. y.1 (cc))
-        ]
-      | inr x ↦ inr (λ e. x.1 (cc))
+    | inl x ↦ elim (same_types_tell ss ts) [
+      | inl y ↦ elim (terms_decide us vs) [ inl z ↦ (let p = x.1 in let q = y.1 in inl (cc)) | inr z ↦ inr (λ e. z (cc)) ]
+      | inr y ↦ inr (λ e. y.1 (cc))
     ]
+    | inr x ↦ inr (λ e. x.1 (cc))
+  ]
   term_decides _ _ = inr (λ e. cc)
 
   pub terms_decide : (ss ts : Terms) → (ss ≡ ts) ⊎ (ss ≢ ts)
   terms_decide Terms.none Terms.none = inl refl
   terms_decide (Terms.more s ss) (Terms.more t ts) = elim (term_decides s t) [
-      | inl x ↦ elim (terms_decide ss ts) [ inl y ↦ inl (cc) | inr y ↦ inr (λ e. y (cc)) ]
-      | inr x ↦ inr (λ e. x (cc))
-    ]
+    | inl x ↦ elim (terms_decide ss ts) [ inl y ↦ inl (cc) | inr y ↦ inr (λ e. y (cc)) ]
+    | inr x ↦ inr (λ e. x (cc))
+  ]
   terms_decide _ _ = inr (λ e. cc)
 
 -- part equations, or lists that no substitution makes equal
@@ -116,33 +116,33 @@ module _ (bs : List Binding) (l : AreLawful bs) (es : List Equation) where
 
     of_heads : (x y : Ty) → head_type bs s ≡ x → head_type bs t ≡ y → Outcome bs (Equation.of_types s t) es
     of_heads (Ty.meta m) (Ty.meta n) p q = elim (eqb_tells m n) [
-        | inl x ↦ Outcome.same (p ∙ ap Ty.meta x.1 ∙ sym q)
-        | inr x ↦ left m (Ty.meta n) p q (λ e. x.1 (cc)) (subst (LacksTypeMeta m) (sym (unbound_type bs n (head_unbound_type bs l t n q))) (λ e. x.1 (sym e)))
-      ]
+      | inl x ↦ Outcome.same (p ∙ ap Ty.meta x.1 ∙ sym q)
+      | inr x ↦ left m (Ty.meta n) p q (λ e. x.1 (cc)) (subst (LacksTypeMeta m) (sym (unbound_type bs n (head_unbound_type bs l t n q))) (λ e. x.1 (sym e)))
+    ]
     of_heads (Ty.meta m) (Ty.bound i) p q = left m (Ty.bound i) p q (λ e. cc) (subst (LacksTypeMeta m) (sym (solved_bound bs i)) tt)
     of_heads (Ty.meta m) (Ty.param i) p q = left m (Ty.param i) p q (λ e. cc) (subst (LacksTypeMeta m) (sym (solved_param bs i)) tt)
     of_heads (Ty.meta m) (Ty.con c ts) p q = elim (occur_types m (solved_types bs ts)) [
-        | inl x ↦ left m (Ty.con c ts) p q (λ e. cc) (subst (LacksTypeMeta m) (sym (solved_con bs c ts)) x)
-        | inr x ↦ clash (Ty.meta m) (Ty.con c ts) p q (heavy m c ts x)
-      ]
+      | inl x ↦ left m (Ty.con c ts) p q (λ e. cc) (subst (LacksTypeMeta m) (sym (solved_con bs c ts)) x)
+      | inr x ↦ clash (Ty.meta m) (Ty.con c ts) p q (heavy m c ts x)
+    ]
     of_heads (Ty.bound i) (Ty.meta m) p q = right (Ty.bound i) m p (λ n e. cc) q (subst (LacksTypeMeta m) (sym (solved_bound bs i)) tt)
     of_heads (Ty.param i) (Ty.meta m) p q = right (Ty.param i) m p (λ n e. cc) q (subst (LacksTypeMeta m) (sym (solved_param bs i)) tt)
     of_heads (Ty.con c ts) (Ty.meta m) p q = elim (occur_types m (solved_types bs ts)) [
-        | inl x ↦ right (Ty.con c ts) m p (λ n e. cc) q (subst (LacksTypeMeta m) (sym (solved_con bs c ts)) x)
-        | inr x ↦ clash (Ty.con c ts) (Ty.meta m) p q (λ a g e. heavy m c ts x a g (sym e))
-      ]
+      | inl x ↦ right (Ty.con c ts) m p (λ n e. cc) q (subst (LacksTypeMeta m) (sym (solved_con bs c ts)) x)
+      | inr x ↦ clash (Ty.con c ts) (Ty.meta m) p q (λ a g e. heavy m c ts x a g (sym e))
+    ]
     of_heads (Ty.bound i) (Ty.bound j) p q = elim (eqb_tells i j) [ inl x ↦ Outcome.same (p ∙ ap Ty.bound x.1 ∙ sym q) | inr x ↦ clash (Ty.bound i) (Ty.bound j) p q (λ a g e. x.1 (cc)) ]
     of_heads (Ty.param i) (Ty.param j) p q = elim (eqb_tells i j) [ inl x ↦ Outcome.same (p ∙ ap Ty.param x.1 ∙ sym q) | inr x ↦ clash (Ty.param i) (Ty.param j) p q (λ a g e. x.1 (cc)) ]
     of_heads (Ty.con c ss) (Ty.con d ts) p q = elim (same_type_tells (Ty.con c ss) (Ty.con d ts)) [
-        | inl z ↦ Outcome.same (p ∙ z.1 ∙ sym q)
-        | inr z ↦ elim (eqb_tells c d) [
-            | inl x ↦ elim (type_parts ss ts es) [
-                | inl y ↦ Outcome.splits y.0 (λ e. z.1 (sym p ∙ e ∙ q)) (Splits.types p (q ∙ ap (λ k. Ty.con k ts) (sym x.1)) y.1)
-                | inr y ↦ clash (Ty.con c ss) (Ty.con d ts) p q (λ a g e. y a (cc))
-              ]
-            | inr x ↦ clash (Ty.con c ss) (Ty.con d ts) p q (λ a g e. x.1 (cc))
-          ]
+      | inl z ↦ Outcome.same (p ∙ z.1 ∙ sym q)
+      | inr z ↦ elim (eqb_tells c d) [
+        | inl x ↦ elim (type_parts ss ts es) [
+          | inl y ↦ Outcome.splits y.0 (λ e. z.1 (sym p ∙ e ∙ q)) (Splits.types p (q ∙ ap (λ k. Ty.con k ts) (sym x.1)) y.1)
+          | inr y ↦ clash (Ty.con c ss) (Ty.con d ts) p q (λ a g e. y a (cc))
+        ]
+        | inr x ↦ clash (Ty.con c ss) (Ty.con d ts) p q (λ a g e. x.1 (cc))
       ]
+    ]
     of_heads x y p q = clash x y p q (λ a g e. cc)
 
   -- of terms
@@ -169,36 +169,36 @@ module _ (bs : List Binding) (l : AreLawful bs) (es : List Equation) where
 
     of_term_heads : (x y : Term) → head_term bs s ≡ x → head_term bs t ≡ y → Outcome bs (Equation.of_terms s t) es
     of_term_heads (Term.meta m k) (Term.meta n j) p q = elim (same_meta_tells n m j k) [
-        | inl x ↦ Outcome.same (p ∙ sym x.1 ∙ sym q)
-        | inr x ↦ left_term m k (Term.meta n j) p q (λ e. x.1 (sym e)) (subst (LacksTermMeta m k) (sym (unbound_term bs n j (head_unbound_term bs l t n j q))) x.1)
-      ]
+      | inl x ↦ Outcome.same (p ∙ sym x.1 ∙ sym q)
+      | inr x ↦ left_term m k (Term.meta n j) p q (λ e. x.1 (sym e)) (subst (LacksTermMeta m k) (sym (unbound_term bs n j (head_unbound_term bs l t n j q))) x.1)
+    ]
     of_term_heads (Term.meta m k) (Term.bound i) p q = left_term m k (Term.bound i) p q (λ e. cc) (subst (LacksTermMeta m k) (sym (solved_bound_term bs i)) tt)
     of_term_heads (Term.meta m k) (Term.eps i j) p q = left_term m k (Term.eps i j) p q (λ e. cc) (subst (LacksTermMeta m k) (sym (solved_eps bs i j)) tt)
     of_term_heads (Term.meta m k) (Term.app f ts us) p q = elim (occur_terms m k (solved_terms bs us)) [
-        | inl x ↦ left_term m k (Term.app f ts us) p q (λ e. cc) (subst (LacksTermMeta m k) (sym (solved_app bs f ts us)) x)
-        | inr x ↦ clash_terms (Term.meta m k) (Term.app f ts us) p q (heavy_term m k f ts us x)
-      ]
+      | inl x ↦ left_term m k (Term.app f ts us) p q (λ e. cc) (subst (LacksTermMeta m k) (sym (solved_app bs f ts us)) x)
+      | inr x ↦ clash_terms (Term.meta m k) (Term.app f ts us) p q (heavy_term m k f ts us x)
+    ]
     of_term_heads (Term.bound i) (Term.meta m k) p q = right_term (Term.bound i) m k p (λ n j e. cc) q (subst (LacksTermMeta m k) (sym (solved_bound_term bs i)) tt)
     of_term_heads (Term.eps i j) (Term.meta m k) p q = right_term (Term.eps i j) m k p (λ n j e. cc) q (subst (LacksTermMeta m k) (sym (solved_eps bs i j)) tt)
     of_term_heads (Term.app f ts us) (Term.meta m k) p q = elim (occur_terms m k (solved_terms bs us)) [
-        | inl x ↦ right_term (Term.app f ts us) m k p (λ n j e. cc) q (subst (LacksTermMeta m k) (sym (solved_app bs f ts us)) x)
-        | inr x ↦ clash_terms (Term.app f ts us) (Term.meta m k) p q (λ a g e. heavy_term m k f ts us x a g (sym e))
-      ]
+      | inl x ↦ right_term (Term.app f ts us) m k p (λ n j e. cc) q (subst (LacksTermMeta m k) (sym (solved_app bs f ts us)) x)
+      | inr x ↦ clash_terms (Term.app f ts us) (Term.meta m k) p q (λ a g e. heavy_term m k f ts us x a g (sym e))
+    ]
     of_term_heads (Term.bound i) (Term.bound j) p q = elim (eqb_tells i j) [ inl x ↦ Outcome.same (p ∙ ap Term.bound x.1 ∙ sym q) | inr x ↦ clash_terms (Term.bound i) (Term.bound j) p q (λ a g e. x.1 (cc)) ]
     of_term_heads (Term.eps i j) (Term.eps n k) p q = elim (term_decides (Term.eps i j) (Term.eps n k)) [ inl x ↦ Outcome.same (p ∙ x ∙ sym q) | inr x ↦ clash_terms (Term.eps i j) (Term.eps n k) p q (λ a g e. x e) ]
     of_term_heads (Term.app f ss us) (Term.app h ts vs) p q = elim (term_decides (Term.app f ss us) (Term.app h ts vs)) [
-        | inl z ↦ Outcome.same (p ∙ z ∙ sym q)
-        | inr z ↦ elim (eqb_tells f h) [
-            | inl x ↦ elim (term_parts us vs es) [
-                | inl w ↦ elim (type_parts ss ts w.0) [
-                    | inl y ↦ Outcome.splits y.0 (λ e. z (sym p ∙ e ∙ q)) (Splits.terms p (q ∙ ap (λ k. Term.app k ts vs) (sym x.1)) w.1 y.1)
-                    | inr y ↦ clash_terms (Term.app f ss us) (Term.app h ts vs) p q (λ a g e. y a (cc))
-                  ]
-                | inr w ↦ clash_terms (Term.app f ss us) (Term.app h ts vs) p q (λ a g e. w a (cc))
-              ]
-            | inr x ↦ clash_terms (Term.app f ss us) (Term.app h ts vs) p q (λ a g e. x.1 (cc))
+      | inl z ↦ Outcome.same (p ∙ z ∙ sym q)
+      | inr z ↦ elim (eqb_tells f h) [
+        | inl x ↦ elim (term_parts us vs es) [
+          | inl w ↦ elim (type_parts ss ts w.0) [
+            | inl y ↦ Outcome.splits y.0 (λ e. z (sym p ∙ e ∙ q)) (Splits.terms p (q ∙ ap (λ k. Term.app k ts vs) (sym x.1)) w.1 y.1)
+            | inr y ↦ clash_terms (Term.app f ss us) (Term.app h ts vs) p q (λ a g e. y a (cc))
           ]
+          | inr w ↦ clash_terms (Term.app f ss us) (Term.app h ts vs) p q (λ a g e. w a (cc))
+        ]
+        | inr x ↦ clash_terms (Term.app f ss us) (Term.app h ts vs) p q (λ a g e. x.1 (cc))
       ]
+    ]
     of_term_heads x y p q = clash_terms x y p q (λ a g e. cc)
 
   -- each equation has an outcome

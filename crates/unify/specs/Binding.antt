@@ -29,6 +29,10 @@ solved_term [] t = t
 solved_term (Binding.of_type m u ∷ bs) t = put_term (only_type m (solved_type bs u)) (solved_term bs t)
 solved_term (Binding.of_term m k u ∷ bs) t = put_term (only_term m k (solved_term bs u)) (solved_term bs t)
 
+-- the bindings as one substitution
+abbrev pub unifier : List Binding → Substitution
+unifier bs = record { type = λ n. solved_type bs (Ty.meta n); term = λ n t. solved_term bs (Term.meta n t) }
+
 -- what a side stands for at its head: while it is a bound metavariable, it is replaced by the right side as made
 abbrev pub if_type_meta : ℕ → Ty → Ty → Ty
 if_type_meta m u (Ty.meta n) = if n == m then u else Ty.meta n

@@ -35,4 +35,4 @@ pub data FormParts : Form → Form → List Equation → Type 0 where
       → TermParts us vs [] middle → TypeParts ss ts middle all → FormParts (Form.atom p ss us) (Form.atom p ts vs) all
   equalities : {s t : Ty} {a b c d : Term}
       → FormParts (Form.equal s a b) (Form.equal t c d)
-          (Equation.of_types s t ∷ Equation.of_terms a c ∷ Equation.of_terms b d ∷ [])
+      (Equation.of_types s t ∷ Equation.of_terms a c ∷ Equation.of_terms b d ∷ [])
