@@ -5,7 +5,8 @@ use Rattle.unify.specs.Substitution.{Substitution, put_type, put_types, put_term
 use Rattle.unify.specs.Equation.{Equation, Solves, SolvesAll, TypeParts, TermParts}
 use Rattle.unify.specs.Binding.{Binding, solved_type, solved_term, head_type, head_term}
 use Rattle.unify.specs.Unification.{Binds, Splits, AreSame, Unifies}
-use Rattle.unify.proofs.Solved.{solved_types, solved_terms, AreLawful, Agrees, solved_con, solved_more, solved_app, solved_more_term, unbound_type, unbound_term, head_solved_type, head_solved_term, head_unbound_type, head_unbound_term}
+use Rattle.unify.specs.Solution.{Agrees}
+use Rattle.unify.proofs.Solved.{solved_types, solved_terms, AreLawful, solved_con, solved_more, solved_app, solved_more_term, unbound_type, unbound_term, head_solved_type, head_solved_term, head_unbound_type, head_unbound_term}
 use Rattle.unify.proofs.General.{lawful_more, agrees_more, put_head_type, put_head_term, type_parts_put, term_parts_put}
 use Rattle.unify.proofs.Measure.{type_weight, types_weight, term_weight, terms_weight, Variable, Among, without, TypeIn, TypesIn, TermIn, TermsIn, type_lacking_in, type_put_in, term_put_type_in, type_still_in, term_lacking_in, term_put_in}
 use Rattle.unify.proofs.Total.{Outcome, outcome}
@@ -130,7 +131,7 @@ module _ (bs : List Binding) where
         let g = subst (TermIn w.0) (sym (head_solved_term bs l s)) (term_lacking_in vs w.0 m k w.2 (solved_term bs s) i.0 o) in
         (w.0, w.1, after_term vs w.0 m k (head_term bs s) w.2 g es r)
 
--- an substitution that solves the equation solves its parts
+-- a substitution that solves the equation solves its parts
 splits_put : (bs : List Binding) → AreLawful bs → {e : Equation} {es all : List Equation} → Splits bs e es all → (a : Substitution) → Agrees a bs → Solves a e → SolvesAll a es → SolvesAll a all
 splits_put bs l (Splits.types {s = s} {t = t} {c = c} {ss = ss} {ts = ts} x y p) a h z r =
     let e : Ty.con c (put_types a ss) ≡ Ty.con c (put_types a ts) = sym (ap (put_type a) x) ∙ put_head_type a bs l h s ∙ z ∙ sym (put_head_type a bs l h t) ∙ ap (put_type a) y in

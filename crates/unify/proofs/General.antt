@@ -5,16 +5,8 @@ use Rattle.unify.specs.Substitution.{Substitution, put_type, put_types, put_term
 use Rattle.unify.specs.Equation.{Equation, Solves, SolvesAll, TypeParts, TermParts}
 use Rattle.unify.specs.Binding.{Binding, only_type, only_term, solved_type, solved_term, head_type, head_term}
 use Rattle.unify.specs.Unification.{LacksTypeMeta, LacksTermMeta, Binds, Splits, Unifies}
-use Rattle.unify.proofs.Solved.{solved_types, solved_terms, AreLawful, Agrees, agrees_type, agrees_term, solved_con, solved_more, solved_app, solved_more_term, joined_type, joined_term, head_solved_type, head_solved_term, head_unbound_type, head_unbound_term}
-
--- the equation, and each of them, holds under the bindings
-abbrev pub IsSolved : List Binding → Equation → Type 0
-IsSolved bs (Equation.of_types s t) = solved_type bs s ≡ solved_type bs t
-IsSolved bs (Equation.of_terms s t) = solved_term bs s ≡ solved_term bs t
-
-abbrev pub AreSolved : List Binding → List Equation → Type 0
-AreSolved bs [] = Unit {0}
-AreSolved bs (e ∷ es) = IsSolved bs e × AreSolved bs es
+use Rattle.unify.specs.Solution.{IsSolved, AreSolved, Agrees}
+use Rattle.unify.proofs.Solved.{solved_types, solved_terms, AreLawful, agrees_type, agrees_term, solved_con, solved_more, solved_app, solved_more_term, joined_type, joined_term, head_solved_type, head_solved_term, head_unbound_type, head_unbound_term}
 
 -- one more binding keeps what is solved
 pub one_more : (b : Binding) (bs : List Binding) (e : Equation) → IsSolved bs e → IsSolved (b ∷ bs) e
@@ -103,7 +95,7 @@ solved_all (Unifies.splits {bs = bs} {cs = cs} n (Splits.terms {s = s} {t = t} {
     let ht = kept_solved u (Equation.of_terms (head_term bs t) t) (head_solved_term bs l t) in
     (sym hs ∙ ap (solved_term cs) x ∙ solved_app cs f ss us ∙ ap (λ z. Term.app f z (solved_terms cs us)) r.0 ∙ ap (Term.app f (solved_types cs ts)) w.0 ∙ sym (solved_app cs f ts vs) ∙ sym (ap (solved_term cs) y) ∙ ht, w.1)
 
--- an substitution that solves the bindings gives a side and its head one tree
+-- a substitution that solves the bindings gives a side and its head one tree
 module _ (a : Substitution) (bs : List Binding) (l : AreLawful bs) (h : Agrees a bs) where
   pub put_head_type : (t : Ty) → put_type a (head_type bs t) ≡ put_type a t
   put_head_type t = sym (agrees_type a bs h (head_type bs t)) ∙ ap (put_type a) (head_solved_type bs l t) ∙ agrees_type a bs h t
@@ -125,7 +117,7 @@ pub term_parts_put : (a : Substitution) {ss ts : Terms} {rest all : List Equatio
 term_parts_put a (TermParts.none) e h = h
 term_parts_put a (TermParts.more {s = s} {t = t} {ss = ss} {ts = ts} p) e h = let x : put_terms a ss ≡ put_terms a ts = cc in (cc, term_parts_put a p x h)
 
--- THEY ARE THE MOST GENERAL THAT DO: an substitution that solves the equations solves the bindings
+-- THEY ARE THE MOST GENERAL THAT DO: a substitution that solves the equations solves the bindings
 pub most_general : {bs cs : List Binding} {es : List Equation} → Unifies bs es cs → AreLawful bs → (a : Substitution) → Agrees a bs → SolvesAll a es → Agrees a cs
 most_general (Unifies.done) l a h z = h
 most_general (Unifies.same x u) l a h z = most_general u l a h z.1

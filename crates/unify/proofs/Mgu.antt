@@ -5,8 +5,9 @@ use Rattle.unify.specs.Substitution.{Substitution, put_type, put_term}
 use Rattle.unify.specs.Equation.{Equation, SolvesAll}
 use Rattle.unify.specs.Binding.{Binding, solved_type, solved_term}
 use Rattle.unify.specs.Unification.{Unifies}
+use Rattle.unify.specs.Solution.{AreSolved}
 use Rattle.unify.proofs.Solved.{agrees_type, agrees_term}
-use Rattle.unify.proofs.General.{AreSolved, solved_all, most_general}
+use Rattle.unify.proofs.General.{solved_all, most_general}
 use Rattle.unify.proofs.Measure.{Variable, Among, TypeIn, TypesIn, TermIn, TermsIn}
 use Rattle.unify.proofs.End.{IsIn, AreIn, unifies_or_not}
 

@@ -14,7 +14,7 @@ at_true b x y z e h = rw e h
 at_false : {A : Type 0} (b : Bool) (x y z : A) → b ≡ false → y ≡ z → (if b then x else y) ≡ z
 at_false b x y z e h = rw e h
 
--- an substitution that gives m what it gives u takes no notice of u put in for m
+-- a substitution that gives m what it gives u takes no notice of u put in for m
 module _ (a : Substitution) (m : ℕ) (u : Ty) (h : put_type a u ≡ a.type m) where
   mutual
     pub put_only_type : (t : Ty) → put_type a (put_type (only_type m u) t) ≡ put_type a t

@@ -5,6 +5,7 @@ use Rattle.zm_logic.specs.Tree.{Ty, Tys, Term, Terms}
 use Rattle.unify.specs.Substitution.{Substitution, put_type, put_types, put_term, put_terms}
 use Rattle.unify.specs.Binding.{Binding, only_type, only_term, solved_type, solved_term, if_type_meta, if_term_meta, head_type, head_term}
 use Rattle.unify.specs.Unification.{LacksTypeMeta, LacksTermMeta}
+use Rattle.unify.specs.Solution.{Agrees}
 use Rattle.unify.proofs.Same.{same_meta_tells}
 use Rattle.unify.proofs.Put.{put_only_type, put_only_type_in_term, put_only_term, put_types_kept, lacking_type, lacking_term, itself_type, other_type, itself_term, other_term}
 
@@ -37,13 +38,7 @@ AreLawful (Binding.of_type m u ∷ bs) = LacksTypeBinding m bs × LacksTypeMeta 
 AreLawful (Binding.of_term m k u ∷ bs) =
     LacksTermBinding m k bs × LacksTermMeta m k (solved_term bs u) × ((n : ℕ) (j : Ty) → u ≡ Term.meta n j → LacksTermBinding n j bs) × AreLawful bs
 
--- the substitution solves each binding
-abbrev pub Agrees : Substitution → List Binding → Type 0
-Agrees a [] = Unit {0}
-Agrees a (Binding.of_type m u ∷ bs) = (a.type m ≡ put_type a u) × Agrees a bs
-Agrees a (Binding.of_term m k u ∷ bs) = (a.term m k ≡ put_term a u) × Agrees a bs
-
--- an substitution that solves the bindings takes no notice of them: they are the most general
+-- a substitution that solves the bindings takes no notice of them: they are the most general
 pub agrees_type : (a : Substitution) (bs : List Binding) → Agrees a bs → (t : Ty) → put_type a (solved_type bs t) ≡ put_type a t
 agrees_type a [] h t = refl
 agrees_type a (Binding.of_type m u ∷ bs) h t =

@@ -6,8 +6,9 @@ use Rattle.unify.specs.Substitution.{Substitution, put_type, put_types, put_term
 use Rattle.unify.specs.Equation.{Equation, Solves, TypeParts, TermParts}
 use Rattle.unify.specs.Binding.{Binding, only_type, only_term, solved_type, solved_term, head_type, head_term}
 use Rattle.unify.specs.Unification.{LacksTypeMeta, LacksTermMeta, Binds, Splits, AreSame}
+use Rattle.unify.specs.Solution.{Agrees}
 use Rattle.unify.proofs.Same.{same_type_tells, same_types_tell, same_meta_tells}
-use Rattle.unify.proofs.Solved.{solved_types, solved_terms, AreLawful, Agrees, agrees_type, agrees_term, solved_con, solved_app, unbound_type, unbound_term, head_solved_type, head_solved_term, head_unbound_type, head_unbound_term}
+use Rattle.unify.proofs.Solved.{solved_types, solved_terms, AreLawful, agrees_type, agrees_term, solved_con, solved_app, unbound_type, unbound_term, head_solved_type, head_solved_term, head_unbound_type, head_unbound_term}
 use Rattle.unify.proofs.General.{put_head_type, put_head_term}
 use Rattle.unify.proofs.Measure.{type_weight, types_weight, term_weight, terms_weight, occur_types, occur_terms}
 

@@ -4,8 +4,9 @@ use Rattle.zm_logic.specs.Tree.{Ty, Tys, Term, Terms}
 use Rattle.unify.specs.Substitution.{Substitution, put_type, put_types, put_term, put_terms}
 use Rattle.unify.specs.Equation.{Equation, Solves, SolvesAll}
 use Rattle.unify.specs.Binding.{Binding, solved_type, solved_term, unifier}
-use Rattle.unify.proofs.Solved.{solved_types, solved_terms, AreLawful, Agrees, solved_con, solved_more, solved_app, solved_more_term, joined_type, joined_term}
-use Rattle.unify.proofs.General.{IsSolved, AreSolved, one_more}
+use Rattle.unify.specs.Solution.{IsSolved, AreSolved, Agrees}
+use Rattle.unify.proofs.Solved.{solved_types, solved_terms, AreLawful, solved_con, solved_more, solved_app, solved_more_term, joined_type, joined_term}
+use Rattle.unify.proofs.General.{one_more}
 use Rattle.unify.proofs.Total.{solved_bound, solved_param, solved_none, solved_bound_term, solved_eps, solved_no_term}
 
 -- putting the unifier in is putting all bindings in

@@ -67,6 +67,12 @@ pub data Unifies : List Binding → List Equation → List Binding → Type 0 wh
   splits : {bs cs : List Binding} {e : Equation} {es all : List Equation}
       → ¬ AreSame bs e → Splits bs e es all → Unifies bs all cs → Unifies bs (e ∷ es) cs
 
+-- both are atoms, or both are equalities
+abbrev pub AreAtomsOrEqualities : Form → Form → Type 0
+AreAtomsOrEqualities (Form.atom p ss us) (Form.atom q ts vs) = Unit {0}
+AreAtomsOrEqualities (Form.equal s a b) (Form.equal t c d) = Unit {0}
+AreAtomsOrEqualities _ _ = ⊥
+
 -- the most general unifier of two terms, and of two atoms or two equalities, as bindings, the latest first
 abbrev pub UnifiesTerms : Term → Term → List Binding → Type 0
 UnifiesTerms s t made = Unifies [] (Equation.of_terms s t ∷ []) made
