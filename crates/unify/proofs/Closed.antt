@@ -1,5 +1,5 @@
 -- A property that the parts of the sides have is one of the right sides that are made.
-use Rattle.std.proofs.Common.{ℕ, ◌≡◌, ◌==◌, ◌&&◌, Bool, true, false, if◌then◌else◌, List, [], ◌∷◌, refl, subst}
+use Rattle.std.proofs.Common.{ℕ, ◌==◌, ◌&&◌, Bool, true, false, if◌then◌else◌, List, [], ◌∷◌, subst}
 use Rattle.zm_logic.specs.Tree.{Ty, Tys, Term, Terms}
 use Rattle.zm_logic.specs.Same.{same_type}
 use Rattle.unify.specs.Equation.{Equation, TypeParts, TermParts}

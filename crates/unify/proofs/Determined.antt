@@ -1,9 +1,9 @@
 -- Equations determine their bindings: each rule excludes the others, and gives one result.
-use Rattle.std.proofs.Common.{ℕ, ◌≡◌, List, [], ◌∷◌, refl, ap, sym, subst, ◌∙◌}
-use Rattle.zm_logic.specs.Tree.{Ty, Tys, Term, Terms, Form}
+use Rattle.std.proofs.Common.{◌≡◌, List, [], ◌∷◌, refl, ap, sym, subst}
+use Rattle.zm_logic.specs.Tree.{Tys, Terms, Form}
 use Rattle.unify.specs.Equation.{Equation, TypeParts, TermParts, FormParts}
-use Rattle.unify.specs.Binding.{Binding, head_type, head_term}
-use Rattle.unify.specs.Unification.{Binds, Splits, AreSame, Unifies, UnifiesForms}
+use Rattle.unify.specs.Binding.{Binding}
+use Rattle.unify.specs.Unification.{Binds, Splits, Unifies, UnifiesForms}
 
 pub one_type_parts : {ss ts : Tys} {rest all also : List Equation}
     → TypeParts ss ts rest all → TypeParts ss ts rest also → all ≡ also

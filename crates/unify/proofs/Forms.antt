@@ -1,13 +1,13 @@
 -- Two atoms, or two equalities, have a most general unifier or none.
-use Rattle.std.proofs.Common.{ℕ, ◌≡◌, ◌≢◌, ◌⊎◌, inl, inr, List, [], ◌∷◌, subst}
+use Rattle.std.proofs.Common.{◌≡◌, ◌≢◌, ◌⊎◌, inl, inr, List, [], subst}
 use Rattle.std.proofs.lemmas.Bool.Decides.{eqb_tells}
-use Rattle.zm_logic.specs.Tree.{Ty, Tys, Term, Terms, Form}
-use Rattle.unify.specs.Substitution.{Substitution, put_type, put_types, put_term, put_terms, put_form}
+use Rattle.zm_logic.specs.Tree.{Form}
+use Rattle.unify.specs.Substitution.{Substitution, put_types, put_terms, put_form}
 use Rattle.unify.specs.Equation.{Equation, SolvesAll, FormParts}
-use Rattle.unify.specs.Binding.{Binding, solved_type, solved_term, unifier}
-use Rattle.unify.specs.Solution.{AreSolved, Agrees, solved_form}
-use Rattle.unify.specs.Unification.{Unifies, UnifiesForms, AreAtomsOrEqualities}
-use Rattle.unify.proofs.General.{solved_all, most_general, type_parts_solved, term_parts_solved, type_parts_put, term_parts_put}
+use Rattle.unify.specs.Binding.{Binding}
+use Rattle.unify.specs.Solution.{AreSolved, solved_form}
+use Rattle.unify.specs.Unification.{UnifiesForms, AreAtomsOrEqualities}
+use Rattle.unify.proofs.General.{type_parts_solved, term_parts_solved, type_parts_put, term_parts_put}
 use Rattle.unify.proofs.Total.{type_parts, term_parts}
 use Rattle.unify.proofs.Mgu.{mgu_or_none}
 use Rattle.unify.proofs.Unifier.{put_unifier_type, put_unifier_types, put_unifier_term, put_unifier_terms}

@@ -1,5 +1,5 @@
 -- The bindings that the equations give solve them, and are the most general that do.
-use Rattle.std.proofs.Common.{◌≡◌, List, [], ◌∷◌, refl, ap, sym, subst, ◌∙◌}
+use Rattle.std.proofs.Common.{◌≡◌, List, ◌∷◌, refl, ap, sym, subst, ◌∙◌}
 use Rattle.zm_logic.specs.Tree.{Ty, Tys, Term, Terms}
 use Rattle.unify.specs.Substitution.{Substitution, put_type, put_types, put_term, put_terms}
 use Rattle.unify.specs.Equation.{Equation, Solves, SolvesAll, TypeParts, TermParts}

@@ -1,7 +1,7 @@
 -- The laws.
-use Rattle.std.proofs.Common.{◌≡◌, ◌⊎◌, inl, inr, List, [], ◌∷◌, sym, ◌∙◌}
+use Rattle.std.proofs.Common.{inl, inr, List, [], sym, ◌∙◌}
 use Rattle.unify.specs.Substitution.{Substitution}
-use Rattle.unify.specs.Equation.{Equation, SolvesAll}
+use Rattle.unify.specs.Equation.{SolvesAll}
 use Rattle.unify.specs.Binding.{Binding, solved_type, solved_term, unifier}
 use Rattle.unify.specs.Unification.{Unifies}
 use Rattle.unify.specs.Laws as laws

@@ -1,5 +1,5 @@
 -- Right sides, as they are made, are parts of the equations' sides.
-use Rattle.std.proofs.Common.{ℕ, ◌≡◌, ◌⊎◌, inl, inr, List, [], ◌∷◌, refl, subst}
+use Rattle.std.proofs.Common.{ℕ, ◌≡◌, inl, inr, List, [], ◌∷◌, refl, subst}
 use Rattle.zm_logic.specs.Tree.{Ty, Tys, Term, Terms}
 use Rattle.unify.specs.Equation.{Equation}
 use Rattle.unify.specs.Binding.{Binding}

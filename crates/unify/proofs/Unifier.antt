@@ -1,7 +1,7 @@
 -- The bindings as a substitution: it solves them, and so whatever is equal under them is solved by it.
-use Rattle.std.proofs.Common.{ℕ, ◌≡◌, List, [], ◌∷◌, refl, ap, sym, ◌∙◌}
+use Rattle.std.proofs.Common.{◌≡◌, List, [], ◌∷◌, refl, ap, sym, ◌∙◌}
 use Rattle.zm_logic.specs.Tree.{Ty, Tys, Term, Terms}
-use Rattle.unify.specs.Substitution.{Substitution, put_type, put_types, put_term, put_terms}
+use Rattle.unify.specs.Substitution.{put_type, put_types, put_term, put_terms}
 use Rattle.unify.specs.Equation.{Equation, Solves, SolvesAll}
 use Rattle.unify.specs.Binding.{Binding, solved_type, solved_term, unifier}
 use Rattle.unify.specs.Solution.{IsSolved, AreSolved, Agrees}

@@ -1,13 +1,12 @@
 -- The worked examples.
-use Rattle.std.proofs.Common.{ℕ, ◌≡◌, List, [], ◌∷◌, refl, ap, arith}
-use Rattle.zm_logic.specs.Tree.{Ty, Tys, Term, Terms, Form}
+use Rattle.std.proofs.Common.{◌≡◌, refl, ap, arith}
 use Rattle.unify.specs.Equation.{Equation, TypeParts, TermParts, FormParts}
-use Rattle.unify.specs.Binding.{Binding, unifier}
-use Rattle.unify.specs.Unification.{Binds, Splits, AreSame, Unifies}
+use Rattle.unify.specs.Binding.{unifier}
+use Rattle.unify.specs.Unification.{Binds, Splits, Unifies}
 use Rattle.unify.specs.Worked as worked
 use Rattle.unify.proofs.General.{solved_all}
 use Rattle.unify.proofs.Measure.{term_weight}
-use Rattle.unify.proofs.Unifier.{solves_all_solved}
+use Rattle.unify.proofs.Unifier.{solves_solved}
 
 pub repeated : worked.RepeatedMetavariable
 repeated =
@@ -35,7 +34,9 @@ clash made (Unifies.splits n (Splits.terms x y p q) u) = cc
 -- each of the two would weigh more than the other
 pub circular : worked.CircularBindings
 circular made u =
-    let h = (solves_all_solved made _ (solved_all u tt)).0 in
+    let left = worked.two 1 (worked.variable 0) (worked.variable 1) in
+    let right = worked.two 1 (worked.one 3 (worked.variable 1)) (worked.one 3 (worked.variable 0)) in
+    let h = solves_solved made (Equation.of_terms left right) (solved_all u tt).0 in
     let x = (unifier made).term 0 worked.individual in
     let y = (unifier made).term 1 worked.individual in
     let e : x ≡ worked.one 3 y = cc in

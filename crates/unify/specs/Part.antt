@@ -1,5 +1,5 @@
 -- Parts of trees: a tree itself, and the parts of its arguments. The type that a parameter carries is no part.
-use Rattle.std.specs.Prelude.{ℕ, ◌≡◌, ◌⊎◌, List, [], ◌∷◌}
+use Rattle.std.specs.Prelude.{◌≡◌, ◌⊎◌, List, [], ◌∷◌}
 use Rattle.zm_logic.specs.Tree.{Ty, Tys, Term, Terms}
 use Rattle.unify.specs.Equation.{Equation}
 use Rattle.unify.specs.Binding.{Binding}

@@ -1,6 +1,6 @@
 -- What it is that bindings solve equations, and that a substitution solves bindings.
 use Rattle.std.specs.Prelude.{◌≡◌, List, [], ◌∷◌}
-use Rattle.zm_logic.specs.Tree.{Ty, Term, Form}
+use Rattle.zm_logic.specs.Tree.{Form}
 use Rattle.unify.specs.Substitution.{Substitution, put_type, put_term, put_form}
 use Rattle.unify.specs.Equation.{Equation}
 use Rattle.unify.specs.Binding.{Binding, solved_type, solved_term, unifier}

@@ -1,8 +1,7 @@
 -- Worked examples. Each statement is the contract of a function of the module laws.
 use Rattle.std.specs.Prelude.{ℕ, ◌≡◌, List, [], ◌∷◌}
 use Rattle.zm_logic.specs.Tree.{Ty, Tys, Term, Terms, Form}
-use Rattle.unify.specs.Equation.{Equation}
-use Rattle.unify.specs.Binding.{Binding, solved_type, solved_term}
+use Rattle.unify.specs.Binding.{Binding, solved_term}
 use Rattle.unify.specs.Unification.{UnifiesTerms, UnifiesForms}
 
 -- the type of individuals, the metavariables over it, and applications
