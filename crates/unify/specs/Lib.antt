@@ -6,3 +6,4 @@ pub mod Part
 pub mod Solution
 pub mod Laws
 pub mod Worked
+pub mod View
