@@ -1,14 +1,16 @@
 -- Unification ends: each list of equations has bindings or no solution.
 use Rattle.std.proofs.Common.{ℕ, zero, suc, ◌≡◌, ◌≢◌, ◌+◌, ◌<◌, ◌≤◌, ◌⊎◌, inl, inr, List, [], ◌∷◌, length, ap, sym, subst, ◌∙◌, arith}
 use Rattle.zm_logic.specs.Tree.{Ty, Tys, Term, Terms}
+use Rattle.unify.specs.Weight.{type_weight, types_weight, term_weight, terms_weight}
+use Rattle.unify.specs.Lawful.{AreLawful}
 use Rattle.unify.specs.Substitution.{Substitution, put_type, put_types, put_term, put_terms}
 use Rattle.unify.specs.Equation.{Equation, Solves, SolvesAll, TypeParts, TermParts}
 use Rattle.unify.specs.Binding.{Binding, solved_type, solved_term, head_type, head_term}
 use Rattle.unify.specs.Unification.{Binds, Splits, AreSame, Unifies}
 use Rattle.unify.specs.Solution.{Agrees}
-use Rattle.unify.proofs.Solved.{solved_types, solved_terms, AreLawful, solved_con, solved_more, solved_app, solved_more_term, unbound_type, unbound_term, head_solved_type, head_solved_term, head_unbound_type, head_unbound_term}
+use Rattle.unify.proofs.Solved.{solved_types, solved_terms, solved_con, solved_more, solved_app, solved_more_term, unbound_type, unbound_term, head_solved_type, head_solved_term, head_unbound_type, head_unbound_term}
 use Rattle.unify.proofs.General.{lawful_more, agrees_more, put_head_type, put_head_term, type_parts_put, term_parts_put}
-use Rattle.unify.proofs.Measure.{type_weight, types_weight, term_weight, terms_weight, Variable, Among, without, TypeIn, TypesIn, TermIn, TermsIn, type_lacking_in, type_put_in, term_put_type_in, type_still_in, term_lacking_in, term_put_in}
+use Rattle.unify.proofs.Measure.{Variable, Among, without, TypeIn, TypesIn, TermIn, TermsIn, type_lacking_in, type_put_in, term_put_type_in, type_still_in, term_lacking_in, term_put_in}
 use Rattle.unify.proofs.Total.{Outcome, outcome}
 
 -- the weight of the sides under the bindings
@@ -30,13 +32,13 @@ AreIn vs bs [] = Unit {0}
 AreIn vs bs (e ∷ es) = IsIn vs bs e × AreIn vs bs es
 
 -- a type weighs something
-type_heavy : (t : Ty) → 0 < type_weight t
+pub type_heavy : (t : Ty) → 0 < type_weight t
 type_heavy (Ty.bound i) = omega arith
 type_heavy (Ty.param i) = omega arith
 type_heavy (Ty.meta i) = omega arith
 type_heavy (Ty.con c ts) = omega arith
 
-term_heavy : (t : Term) → 0 < term_weight t
+pub term_heavy : (t : Term) → 0 < term_weight t
 term_heavy (Term.bound i) = omega arith
 term_heavy (Term.eps i t) = omega arith
 term_heavy (Term.meta i t) = omega arith

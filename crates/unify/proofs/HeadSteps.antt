@@ -11,7 +11,7 @@ use Rattle.unify.specs.declared.binding.Binding.{Binding}
 use Rattle.unify.specs.View.{binding_of, latest_on, latest, past_type, past_term}
 use Rattle.unify.proofs.Same.{Tells, same_type_tells}
 
-abbrev id_of : ℕ → TyId
+abbrev pub id_of : ℕ → TyId
 id_of n = record { 0 = n }
 
 -- one id, or types that differ

@@ -7,3 +7,7 @@ pub mod Solution
 pub mod Laws
 pub mod Worked
 pub mod View
+pub mod Weight
+pub mod Lawful
+pub mod Pending
+pub mod Occurs

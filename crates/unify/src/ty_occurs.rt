@@ -1,3 +1,9 @@
+ghost use Rattle.std.specs.Prelude.{◌≡◌, ◌++◌, ◌∷◌, All, OnOk, IfOk};
+ghost use Rattle.term_store.specs.Trees.{HasType};
+ghost use Rattle.unify.specs.Lawful.{AreLawful};
+ghost use Rattle.unify.specs.View.{HasBinding, latest};
+ghost use Rattle.unify.specs.Occurs.{IfFound, TypeLacks, LackTypes, EntersType, entered_types};
+
 use crate::binding::Binding;
 use crate::heads::ty_head;
 use indexmap::IndexSet;
@@ -12,7 +18,9 @@ pub(crate) enum TyVisit {
 }
 
 // Enters the parts of a type.
-fn enter_all(path: &mut Vec<TyVisit>, ids: &[TyId]) -> Result<(), AllocError> {
+fn enter_all(path: &mut Vec<TyVisit>, ids: &[TyId]) -> Result<(), AllocError>
+    ensures { OnOk result (path.new.items ≡ path.old.items ++ entered_types ids.now) }
+{
     for id in ids {
         path.push(TyVisit::Enter(*id))?;
     }
@@ -27,7 +35,13 @@ fn enter(
     lacking: &IndexSet<TyId>,
     path: &mut Vec<TyVisit>,
     id: TyId,
-) -> Result<bool, AllocError> {
+) -> Result<bool, AllocError>
+    requires has { HasType store.now id }
+    requires have { All (HasBinding store.now) made.now }
+    requires lawful { AreLawful (latest store.now made.now) }
+    requires known { LackTypes store.now (latest store.now made.now) meta lacking.now }
+    ensures { IfOk result (IfFound (TypeLacks store.now (latest store.now made.now) meta id → ⊥) (EntersType store.now (latest store.now made.now) meta id path.old.items path.new.items)) }
+{
     let head = ty_head(store, made, id);
     if lacking.contains(&head) {
         return Ok(false);
@@ -50,7 +64,12 @@ pub(crate) fn occurs_in_ty(
     made: &[Binding],
     meta: u64,
     within: TyId,
-) -> Result<bool, AllocError> {
+) -> Result<bool, AllocError>
+    requires has { HasType store.now within }
+    requires have { All (HasBinding store.now) made.now }
+    requires lawful { AreLawful (latest store.now made.now) }
+    ensures { IfOk result (IfFound (TypeLacks store.now (latest store.now made.now) meta within → ⊥) (TypeLacks store.now (latest store.now made.now) meta within)) }
+{
     let mut lacking: IndexSet<TyId> = IndexSet::new(alloc);
     let mut path: Vec<TyVisit> = Vec::new(alloc);
     path.push(TyVisit::Enter(within))?;
