@@ -47,7 +47,7 @@ module _ (s : Tables) (bs : List Binding) where
 
     parts_forth : (is : List TyId) → LackTypeMeta m (solved_types bs (parts is)) → AllAsked (AsksType s bs m) (GivesType s bs m) tt (entered_types is)
     parts_forth [] h = tt
-    parts_forth (i ∷ is) h = let k = subst (LackTypeMeta m) (solved_more bs (type_of s i) (parts is)) h in (k.0, parts_forth is k.1)
+    parts_forth (i ∷ is) h = let z = subst (LackTypeMeta m) (solved_more bs (type_of s i) (parts is)) h in (z.0, parts_forth is z.1)
 
     parts_marked : (is : List TyId) → IsMarked (AsksType s bs m) (GivesType s bs m) (entered_types is)
     parts_marked [] = tt
@@ -58,8 +58,8 @@ module _ (s : Tables) (bs : List Binding) where
     lacking i old h = record {
       more = [];
       grown = sym (append-nil old);
-      back = λ k. h;
-      forth = λ k. tt;
+      back = λ z. h;
+      forth = λ z. tt;
       marked = tt;
       has = tt;
       lighter = omega (arith, type_heavy (solved_type bs (type_of s i)));
@@ -70,7 +70,7 @@ module _ (s : Tables) (bs : List Binding) where
       head_is = ap (solved_type bs) e ∙ head_solved_type bs l (type_of s i)
 
       pub lacking_head : TypeLacks s bs m h → TypeLacks s bs m i
-      lacking_head k = subst (LacksTypeMeta m) head_is k
+      lacking_head z = subst (LacksTypeMeta m) head_is z
 
       pub bound_lacks : (n : ℕ) → type_of s h ≡ Ty.bound n → TypeLacks s bs m i
       bound_lacks n f = lacking_head (subst (LacksTypeMeta m) (sym (ap (solved_type bs) f ∙ solved_bound bs n)) tt)
@@ -85,7 +85,7 @@ module _ (s : Tables) (bs : List Binding) where
       other_lacks n f d = subst (LacksTypeMeta m) (meta_is n f) d
 
       pub itself_is_held : (n : ℕ) → type_of s h ≡ Ty.meta n → n ≡ m → TypeLacks s bs m i → ⊥
-      itself_is_held n f d k = subst (LacksTypeMeta m) (sym (meta_is n f)) k d
+      itself_is_held n f d z = subst (LacksTypeMeta m) (sym (meta_is n f)) z d
 
       pub meta_enters : (n : ℕ) (old : List TyVisit) → type_of s h ≡ Ty.meta n
           → IfFound (TypeLacks s bs m i → ⊥) (EntersType s bs m i old old) (nat_eq n m)
@@ -102,9 +102,9 @@ module _ (s : Tables) (bs : List Binding) where
           record {
             more = Leave h ∷ entered_types is;
             grown = g;
-            back = λ k. lacking_head (subst (LacksTypeMeta m) (sym f') (parts_back is k.1));
-            forth = λ k. (tt, parts_forth is (subst (LacksTypeMeta m) f' (subst (LacksTypeMeta m) (sym head_is) k)));
-            marked = (λ a k. subst (LacksTypeMeta m) (sym f') (parts_back is k), parts_marked is);
+            back = λ z. lacking_head (subst (LacksTypeMeta m) (sym f') (parts_back is z.1));
+            forth = λ z. (tt, parts_forth is (subst (LacksTypeMeta m) f' (subst (LacksTypeMeta m) (sym head_is) z)));
+            marked = (λ a z. subst (LacksTypeMeta m) (sym f') (parts_back is z), parts_marked is);
             has = (a, parts_have is b);
             lighter = omega (arith, parts_load is, w, v);
           }
@@ -125,15 +125,15 @@ module _ (s : Tables) (bs : List Binding) (m : ℕ) (within : TyId) where
 
   pub walk_starts : (path : List TyVisit) → path ≡ Enter within ∷ [] → HasType s within → Walks path
   walk_starts path e h =
-      subst Walks (sym e) (record { has = (h, tt); marked = ((λ a k. tt), tt); back = λ k. k.0; forth = λ k. (k, tt) })
+      subst Walks (sym e) (record { has = (h, tt); marked = ((λ a z. tt), tt); back = λ z. z.0; forth = λ z. (z, tt) })
 
   pub walk_done : (path : List TyVisit) → path ≡ [] → Walks path → TypeLacks s bs m within
   walk_done path e w = (subst Walks e w).back tt
 
   module _ (path rest : List TyVisit) (i : TyId) where
     pub walk_found : path ≡ rest ++ (Enter i ∷ []) → Walks path → (TypeLacks s bs m i → ⊥) → TypeLacks s bs m within → ⊥
-    walk_found e w f k =
-        f (asked_last (AsksType s bs m) (GivesType s bs m) tt rest (Enter i ∷ []) ((subst Walks e w).forth k)).0
+    walk_found e w f z =
+        f (asked_last (AsksType s bs m) (GivesType s bs m) tt rest (Enter i ∷ []) ((subst Walks e w).forth z)).0
 
     pub walk_has : path ≡ rest ++ (Enter i ∷ []) → Walks path → HasType s i
     walk_has e w = (each_last (HasTyVisit s bs) rest (Enter i ∷ []) (subst Walks e w).has).0
@@ -146,9 +146,9 @@ module _ (s : Tables) (bs : List Binding) (m : ℕ) (within : TyId) where
         subst Walks (sym n.grown)
         (record {
           has = each_both (HasTyVisit s bs) rest n.more (each_first (HasTyVisit s bs) rest one v.has) n.has;
-          marked = marked_swap A G one n.more (λ a k. (n.back k, tt)) n.marked rest v.marked;
-          back = λ k. v.back (asked_both A G tt rest one (asked_first A G tt rest n.more k) (n.back (asked_last A G tt rest n.more k), tt));
-          forth = λ k. let h = v.forth k in asked_both A G tt rest n.more (asked_first A G tt rest one h) (n.forth (asked_last A G tt rest one h).0);
+          marked = marked_swap A G one n.more (λ a z. (n.back z, tt)) n.marked rest v.marked;
+          back = λ z. v.back (asked_both A G tt rest one (asked_first A G tt rest n.more z) (n.back (asked_last A G tt rest n.more z), tt));
+          forth = λ z. let h = v.forth z in asked_both A G tt rest n.more (asked_first A G tt rest one h) (n.forth (asked_last A G tt rest one h).0);
         })
 
     pub enters_lighter : (new : List TyVisit) → path ≡ rest ++ (Enter i ∷ []) → EntersType s bs m i rest new → types_load s bs new < types_load s bs path
@@ -163,9 +163,9 @@ module _ (s : Tables) (bs : List Binding) (m : ℕ) (within : TyId) where
         let one : List TyVisit = Leave i ∷ [] in
         record {
           has = each_first (HasTyVisit s bs) rest one v.has;
-          marked = subst (IsMarked A G) (append-nil rest) (marked_swap A G one [] (λ a k. (tt, tt)) tt rest v.marked);
-          back = λ k. v.back (asked_both A G tt rest one k (tt, tt));
-          forth = λ k. asked_first A G tt rest one (v.forth k);
+          marked = subst (IsMarked A G) (append-nil rest) (marked_swap A G one [] (λ a z. (tt, tt)) tt rest v.marked);
+          back = λ z. v.back (asked_both A G tt rest one z (tt, tt));
+          forth = λ z. asked_first A G tt rest one (v.forth z);
         }
 
     pub left_lacks : path ≡ rest ++ (Leave i ∷ []) → Walks path → HasType s i × TypeLacks s bs m i
@@ -177,12 +177,12 @@ module _ (s : Tables) (bs : List Binding) (m : ℕ) (within : TyId) where
     leaves_lighter e = let f = ap (types_load s bs) e in omega (arith, f, types_load_more s bs rest (Leave i ∷ []))
 
 -- one more type that lacks it
-pub known_more : {S : Type 0} (s : Tables) (bs : List Binding) (m : ℕ) (known more : IndexSet TyId S) (k : TyId)
-    → ((q : TyId) → contains (λ x y. nat_eq x.0 y.0) more q ≡ cond (nat_eq k.0 q.0) true (contains (λ x y. nat_eq x.0 y.0) known q))
-    → LackTypes s bs m known → HasType s k × TypeLacks s bs m k → LackTypes s bs m more
-known_more s bs m known more k u l p i h =
-    elim (eqb_tells k.0 i.0) [
-      | inl x ↦ (let e : k ≡ i = ap (λ (n : ℕ). id_of n) x.1 in subst (λ j. HasType s j × TypeLacks s bs m j) e p)
+pub known_more : {S : Type 0} (s : Tables) (bs : List Binding) (m : ℕ) (known more : IndexSet TyId S) (z : TyId)
+    → ((q : TyId) → contains (λ x y. nat_eq x.0 y.0) more q ≡ cond (nat_eq z.0 q.0) true (contains (λ x y. nat_eq x.0 y.0) known q))
+    → LackTypes s bs m known → HasType s z × TypeLacks s bs m z → LackTypes s bs m more
+known_more s bs m known more z u l p i h =
+    elim (eqb_tells z.0 i.0) [
+      | inl x ↦ (let e : z ≡ i = ap (λ (n : ℕ). id_of n) x.1 in subst (λ j. HasType s j × TypeLacks s bs m j) e p)
       | inr x ↦ (let f = u i ∙ ap (λ b. cond b true (contains (λ x y. nat_eq x.0 y.0) known i)) x.0 in l i (sym f ∙ h))
     ]
 

@@ -33,8 +33,8 @@ pub(crate) fn term_meta(store: &Store, id: TermId) -> Option<(u64, TyId)>
     }
 }
 
-// Whether two ids are those of one type.
-fn same_ty(store: &Store, left: TyId, right: TyId) -> bool
+/// Whether two ids are those of one type.
+pub(crate) fn same_ty(store: &Store, left: TyId, right: TyId) -> bool
     requires has { HasType store.now left }
     requires has_right { HasType store.now right }
     ensures { result ≡ same_type (type_of store.now left) (type_of store.now right) }

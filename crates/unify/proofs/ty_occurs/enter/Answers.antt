@@ -33,7 +33,7 @@ returns-in_ok-enter_all-in-Con c =
     con_enters s bs c.args.meta c.requires.lawful c.args.id head c.ty_head-head.ensures.tree c.in-Con.field-0.0 ids c.args.path.now.items c.enter_all.new.path.items
     c.ty_head-head.ensures.has below f
     (grown_by c.args.path.now.items c.push.new.self.items c.enter_all.new.path.items (entered_types ids) (Leave head)
-      c.in_ok-push-in-Con.ensures.items c.in_ok-enter_all-in-Con.ensures)
+    c.in_ok-push-in-Con.ensures.items c.in_ok-enter_all-in-Con.ensures)
 
 pub returns-in-Bound : goal.returns-in-Bound
 returns-in-Bound c =
