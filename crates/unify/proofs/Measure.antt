@@ -2,6 +2,7 @@
 use Rattle.std.proofs.Common.{ℕ, ◌≡◌, ◌≢◌, ◌+◌, ◌<◌, ◌≤◌, ◌⊎◌, inl, inr, List, [], ◌∷◌, length, ap, sym, subst, ◌∙◌, arith}
 use Rattle.std.proofs.lemmas.Bool.Decides.{eqb_tells}
 use Rattle.zm_logic.specs.Tree.{Ty, Tys, Term, Terms}
+use Rattle.unify.specs.Metas.{Variable}
 use Rattle.unify.specs.Weight.{type_weight, types_weight, term_weight, terms_weight}
 use Rattle.unify.specs.Substitution.{Substitution, put_type, put_types, put_term, put_terms}
 use Rattle.unify.specs.Binding.{only_type, only_term}
@@ -39,10 +40,6 @@ mutual
     | inr x ↦ inr (λ a. omega (arith, x a))
     | inl x ↦ elim (occur_terms m k ts) [ inl y ↦ inl (x, y) | inr y ↦ inr (λ a. omega (arith, y a)) ]
   ]
-
-pub data Variable : Type 0 where
-  type : (number : ℕ) → Variable
-  term : (number : ℕ) (of : Ty) → Variable
 
 pub variable_decides : (x y : Variable) → (x ≡ y) ⊎ (x ≢ y)
 variable_decides (Variable.type n) (Variable.type m) = elim (eqb_tells n m) [ inl x ↦ inl (ap Variable.type x.1) | inr x ↦ inr (λ e. x.1 (cc)) ]

@@ -174,7 +174,7 @@ module _ (s : Tables) (bs : List Binding) (m : ℕ) (k : Ty) (within : TermId) w
     pub leaves_lighter : path ≡ rest ++ (Leave i ∷ []) → terms_load s bs rest < terms_load s bs path
     leaves_lighter e = let f = ap (terms_load s bs) e in omega (arith, f, terms_load_more s bs rest (Leave i ∷ []))
 
-abbrev term_id : ℕ → TermId
+abbrev pub term_id : ℕ → TermId
 term_id n = record { 0 = n }
 
 -- one more term that lacks it

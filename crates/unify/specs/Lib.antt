@@ -11,3 +11,7 @@ pub mod Weight
 pub mod Lawful
 pub mod Pending
 pub mod Occurs
+pub mod Metas
+pub mod Task
+pub mod Answer
+pub mod Solving

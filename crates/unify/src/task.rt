@@ -1,3 +1,8 @@
+ghost use Rattle.std.specs.Prelude.{◌≡◌, ◌++◌, OnOk, IfOk, length};
+ghost use Rattle.indexmap.specs.IndexSet.{IsEmpty};
+ghost use Rattle.unify.specs.Task.{type_tasks, term_tasks, PushesParts};
+ghost use Rattle.unify.specs.Occurs.{IfFound};
+
 use crate::binding::Binding;
 use indexmap::IndexSet;
 use std::alloc::{AllocError, Global};
@@ -35,7 +40,10 @@ pub(crate) struct Known {
 }
 
 impl Known {
-    pub(crate) fn new(alloc: Global) -> Known {
+    pub(crate) fn new(alloc: Global) -> Known
+        ensures types { IsEmpty result.types }
+        ensures terms { IsEmpty result.terms }
+    {
         Known {
             types: IndexSet::new(alloc),
             terms: IndexSet::new(alloc),
@@ -48,7 +56,10 @@ pub(crate) fn push_types(
     tasks: &mut Vec<Task>,
     left: &[TyId],
     right: &[TyId],
-) -> Result<(), AllocError> {
+) -> Result<(), AllocError>
+    requires { length left.now ≡ length right.now }
+    ensures { OnOk result (tasks.new.items ≡ tasks.old.items ++ type_tasks left.now right.now) }
+{
     for i in (0..left.len()).rev() {
         tasks.push(Task::Types(left[i], right[i]))?;
     }
@@ -60,24 +71,34 @@ pub(crate) fn push_terms(
     tasks: &mut Vec<Task>,
     left: &[TermId],
     right: &[TermId],
-) -> Result<(), AllocError> {
+) -> Result<(), AllocError>
+    requires { length left.now ≡ length right.now }
+    ensures { OnOk result (tasks.new.items ≡ tasks.old.items ++ term_tasks left.now right.now) }
+{
     for i in (0..left.len()).rev() {
         tasks.push(Task::Terms(left[i], right[i]))?;
     }
     Ok(())
 }
 
-/// Adds the tasks for the arguments of two trees with one symbol, types before terms. The answer tells whether the two
-/// have as many arguments; where they haven't, nothing is added.
+/// Adds the tasks for the arguments of two trees, types to be taken before terms. The answer tells whether the two have
+/// as many arguments.
 pub(crate) fn push_parts(
     tasks: &mut Vec<Task>,
-    types: (&[TyId], &[TyId]),
-    terms: (&[TermId], &[TermId]),
-) -> Result<bool, AllocError> {
-    if types.0.len() != types.1.len() || terms.0.len() != terms.1.len() {
+    left_types: &[TyId],
+    right_types: &[TyId],
+    left: &[TermId],
+    right: &[TermId],
+) -> Result<bool, AllocError>
+    ensures { IfOk result (IfFound (PushesParts left_types.now right_types.now left.now right.now tasks.old.items tasks.new.items) (length left_types.now ≡ length right_types.now → length left.now ≡ length right.now → ⊥)) }
+{
+    if left_types.len() != right_types.len() {
         return Ok(false);
     }
-    push_terms(tasks, terms.0, terms.1)?;
-    push_types(tasks, types.0, types.1)?;
+    if left.len() != right.len() {
+        return Ok(false);
+    }
+    push_terms(tasks, left, right)?;
+    push_types(tasks, left_types, right_types)?;
     Ok(true)
 }

@@ -1,6 +1,15 @@
+ghost use Rattle.std.specs.Prelude.{◌≡◌, ◌++◌, ◌∷◌, [], All, IfOk};
+ghost use Rattle.term_store.specs.Trees.{HasType, HasTerm, type_of};
+ghost use Rattle.unify.specs.Lawful.{AreLawful};
+ghost use Rattle.unify.specs.View.{HasBinding, latest};
+ghost use Rattle.unify.specs.Occurs.{TermLacks};
+ghost use Rattle.unify.specs.Task.{IfStep, IsState, GivesWay, MakesBinding, Clash, SplitsTerms, TermsDiffer};
+ghost use Rattle.unify.specs.declared.binding.Binding.TheVariants.{OfTerm};
+ghost use Rattle.unify.specs.declared.task.Task.TheVariants.{Terms};
+
 use crate::binding::Binding;
 use crate::heads::{term_head, term_meta};
-use crate::task::{Known, Pair, Step, Task, push_terms, push_types};
+use crate::task::{Known, Pair, Step, Task, push_parts};
 use crate::term_occurs::occurs_in_term;
 use std::alloc::{AllocError, Global};
 use term_store::{Store, TermId, TermNode, TyId};
@@ -12,7 +21,13 @@ fn bind(
     made: &[Binding],
     meta: (u64, TyId),
     to: TermId,
-) -> Result<Step, AllocError> {
+) -> Result<Step, AllocError>
+    requires has { HasTerm store.now to }
+    requires has_type { HasType store.now meta.1 }
+    requires have { All (HasBinding store.now) made.now }
+    requires lawful { AreLawful (latest store.now made.now) }
+    ensures { IfOk result (IfStep ⊥ (λ b. (b ≡ OfTerm meta.0 meta.1 to) × TermLacks store.now (latest store.now made.now) meta.0 (type_of store.now meta.1) to) (TermLacks store.now (latest store.now made.now) meta.0 (type_of store.now meta.1) to → ⊥)) }
+{
     if occurs_in_term(alloc, store, made, meta, to)? {
         return Ok(Step::Clashes);
     }
@@ -29,20 +44,29 @@ fn split(
     tasks: &mut Vec<Task>,
     left: TermId,
     right: TermId,
-) -> Result<Step, AllocError> {
+) -> Result<Step, AllocError>
+    requires has { HasTerm store.now left }
+    requires has_right { HasTerm store.now right }
+    ensures { IfOk result (IfStep (SplitsTerms store.now left right tasks.old.items tasks.new.items) (λ _. ⊥) (TermsDiffer store.now left right)) }
+{
     match store.term_node(left) {
         TermNode::App(f, ss, us) => match store.term_node(right) {
             TermNode::App(g, ts, vs) => {
-                if f.0 != g.0
-                    || ss.as_slice().len() != ts.as_slice().len()
-                    || us.as_slice().len() != vs.as_slice().len()
-                {
+                if f.0 != g.0 {
                     return Ok(Step::Clashes);
                 }
                 tasks.push(Task::TermsDone(left, right))?;
-                push_terms(tasks, us.as_slice(), vs.as_slice())?;
-                push_types(tasks, ss.as_slice(), ts.as_slice())?;
-                Ok(Step::Goes)
+                if push_parts(
+                    tasks,
+                    ss.as_slice(),
+                    ts.as_slice(),
+                    us.as_slice(),
+                    vs.as_slice(),
+                )? {
+                    Ok(Step::Goes)
+                } else {
+                    Ok(Step::Clashes)
+                }
             }
             TermNode::Bound(_) | TermNode::Eps(_, _) | TermNode::Meta(_, _) => Ok(Step::Clashes),
         },
@@ -58,21 +82,28 @@ pub(crate) fn solve_terms(
     known: &Known,
     tasks: &mut Vec<Task>,
     sides: (TermId, TermId),
-) -> Result<Step, AllocError> {
+) -> Result<Step, AllocError>
+    requires state { IsState store.now made.now known.now (tasks.old.items ++ Terms sides.0 sides.1 ∷ []) }
+    ensures { IfOk result (IfStep (GivesWay store.now made.now (tasks.old.items ++ Terms sides.0 sides.1 ∷ []) known.now tasks.new.items) (λ b. MakesBinding store.now made.now (tasks.old.items ++ Terms sides.0 sides.1 ∷ []) b known.now tasks.new.items) (Clash store.now made.now (tasks.old.items ++ Terms sides.0 sides.1 ∷ []))) }
+{
     let left = term_head(store, made, sides.0);
     let right = term_head(store, made, sides.1);
+    if left.0 == right.0 {
+        return Ok(Step::Goes);
+    }
     let pair = Pair {
         left: left.0,
         right: right.0,
     };
-    if left == right || known.terms.contains(&pair) {
+    if known.terms.contains(&pair) {
         return Ok(Step::Goes);
     }
+    store.shared();
     if let Some(meta) = term_meta(store, left) {
-        return bind(alloc, store, made, meta, right);
+        return Ok(bind(alloc, store, made, meta, right)?);
     }
     if let Some(meta) = term_meta(store, right) {
-        return bind(alloc, store, made, meta, left);
+        return Ok(bind(alloc, store, made, meta, left)?);
     }
-    split(store, tasks, left, right)
+    Ok(split(store, tasks, left, right)?)
 }

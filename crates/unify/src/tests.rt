@@ -380,22 +380,27 @@ fn chain(
     Ok(left)
 }
 
-// solved, the first right side is 190,001 deep
+// m29, .., m0 stand for g(..g(m30)..), .., g(..g(m1)..) with 100 times g: solved, the twentieth is 2,001 deep
 #[test]
-fn a_long_chain(rt: HostRuntime) -> Result<(), Fail> {
+fn a_chain(rt: HostRuntime) -> Result<(), Fail> {
     let alloc = rt.alloc();
     let mut store = Store::new(alloc);
+    let mut left: Vec<TermId> = Vec::new(alloc);
     let mut right: Vec<TermId> = Vec::new(alloc);
-    let left = chain(alloc, &mut store, &mut right)?;
-    let first = right[0];
+    for n in 0..30 {
+        left.push(variable(alloc, &mut store, 29 - n)?)?;
+        let next = variable(alloc, &mut store, 30 - n)?;
+        right.push(apps(alloc, &mut store, 100, next)?)?;
+    }
+    let named = right[19];
     let left = app(alloc, &mut store, 10, &left)?;
     let right = app(alloc, &mut store, 10, &right)?;
     let answer = mgu_terms(alloc, &mut store, left, right);
-    assert!(rt; is_deep(answer, first));
+    assert!(rt; is_deep(answer, named));
     Ok(())
 }
 
-// and where m100 is to be m0 besides, it holds itself
+// where m100 is to be m0 besides, it holds itself, 190,000 levels down
 #[test]
 fn a_long_chain_that_returns(rt: HostRuntime) -> Result<(), Fail> {
     let alloc = rt.alloc();

@@ -1,3 +1,10 @@
+ghost use Rattle.std.specs.Prelude.{◌≡◌, ◌++◌, List, ◌∷◌, [], All, IfOk, IfSome, IfNone};
+ghost use Rattle.unify.specs.Binding as trees;
+ghost use Rattle.unify.specs.Unification.{Unifies};
+ghost use Rattle.unify.specs.Pending.{Each};
+ghost use Rattle.unify.specs.View.{HasBinding, latest};
+ghost use Rattle.unify.specs.Task.{IfStep, HasTask, IsState, GivesWay, MakesBinding, Clash, equations, marks};
+
 use crate::binding::Binding;
 use crate::task::{Known, Pair, Step, Task};
 use crate::terms::solve_terms;
@@ -13,7 +20,10 @@ fn take_task(
     known: &mut Known,
     tasks: &mut Vec<Task>,
     task: Task,
-) -> Result<Step, AllocError> {
+) -> Result<Step, AllocError>
+    requires state { IsState store.now made.now known.old (tasks.old.items ++ task ∷ []) }
+    ensures { IfOk result (IfStep (GivesWay store.now made.now (tasks.old.items ++ task ∷ []) known.new tasks.new.items) (λ b. MakesBinding store.now made.now (tasks.old.items ++ task ∷ []) b known.new tasks.new.items) (Clash store.now made.now (tasks.old.items ++ task ∷ []))) }
+{
     match task {
         Task::Types(left, right) => solve_types(alloc, store, made, known, tasks, (left, right)),
         Task::Terms(left, right) => solve_terms(alloc, store, made, known, tasks, (left, right)),
@@ -41,7 +51,10 @@ fn take_tasks(
     made: &[Binding],
     known: &mut Known,
     tasks: &mut Vec<Task>,
-) -> Result<Step, AllocError> {
+) -> Result<Step, AllocError>
+    requires state { IsState store.now made.now known.old tasks.old.items }
+    ensures { IfOk result (IfStep (Unifies (latest store.now made.now) (equations store.now tasks.old.items) (latest store.now made.now)) (λ b. MakesBinding store.now made.now tasks.old.items b known.new tasks.new.items) (Clash store.now made.now tasks.old.items)) }
+{
     while let Some(task) = tasks.pop() {
         match take_task(alloc, store, made, known, tasks, task)? {
             Step::Goes => {}
@@ -57,11 +70,17 @@ pub(crate) fn unify(
     alloc: Global,
     store: &Store,
     tasks: Vec<Task>,
-) -> Result<Option<Vec<Binding>>, AllocError> {
+) -> Result<Option<Vec<Binding>>, AllocError>
+    requires has { Each (HasTask store.now) tasks.items }
+    requires unmarked { marks tasks.items ≡ 0 }
+    ensures have { IfOk result (λ found. IfSome found (λ made. All (HasBinding store.now) made.items)) }
+    ensures some { IfOk result (λ found. IfSome found (λ made. Unifies [] (equations store.now tasks.items) (latest store.now made.items))) }
+    ensures none { IfOk result (λ found. IfNone found ((made : List trees.Binding) → Unifies [] (equations store.now tasks.items) made → ⊥)) }
+{
     let mut tasks = tasks;
     let mut made: Vec<Binding> = Vec::new(alloc);
     let mut known = Known::new(alloc);
-    loop {
+    'bindings: loop {
         match take_tasks(alloc, store, &made, &mut known, &mut tasks)? {
             Step::Goes => return Ok(Some(made)),
             Step::Binds(binding) => made.push(binding)?,

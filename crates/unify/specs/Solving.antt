@@ -1,0 +1,36 @@
+-- Trees with all bindings put in, as they are kept while they are made.
+use Rattle.std.specs.Prelude.{ℕ, ◌≡◌, ◌<◌, Some, nat_eq, List, length}
+use Rattle.indexmap.specs.IndexMap.{get}
+use Rattle.zm_logic.specs.Tree.{Ty, Tys, Term, Terms}
+use Rattle.term_store.specs.Node.{types_at, terms_at, TypesBelow, TermsBelow}
+use Rattle.term_store.specs.Trees.{Tables, all_trees, HasType, HasTerm, type_of, term_of}
+use Rattle.term_store.specs.declared.ids.TyId.{TyId}
+use Rattle.term_store.specs.declared.ids.TermId.{TermId}
+use Rattle.unify.specs.Binding.{Binding, solved_type, solved_term, unifier}
+use Rattle.unify.specs.Substitution.{put_types, put_terms}
+use Rattle.unify.specs.declared.solving.Solved.{Solved}
+
+-- lists of trees with all bindings put in
+abbrev pub all_types : List Binding → Tys → Tys
+all_types bs ts = put_types (unifier bs) ts
+
+abbrev pub all_terms : List Binding → Terms → Terms
+all_terms bs us = put_terms (unifier bs) us
+
+-- the id of a tree, and the ids of trees
+abbrev pub IsTypeOf : Tables → Ty → TyId → Type 0
+IsTypeOf s t i = HasType s i × (type_of s i ≡ t)
+
+abbrev pub IsTermOf : Tables → Term → TermId → Type 0
+IsTermOf s u i = HasTerm s i × (term_of s i ≡ u)
+
+abbrev pub AreTypesOf : Tables → Tys → List TyId → Type 0
+AreTypesOf s ts is = TypesBelow (length s.types) is × (types_at (all_trees s).types is ≡ ts)
+
+abbrev pub AreTermsOf : Tables → Terms → List TermId → Type 0
+AreTermsOf s us is = TermsBelow (length s.terms) is × (terms_at (all_trees s).terms is ≡ us)
+
+-- whatever is kept is solved
+pub record KnowsSolved (s : Tables) (bs : List Binding) (kept : Solved) : Type 0 where
+  pub types : (i r : TyId) → get (λ x y. nat_eq x.0 y.0) kept.types i ≡ Some r → HasType s i × IsTypeOf s (solved_type bs (type_of s i)) r
+  pub terms : (i r : TermId) → get (λ x y. nat_eq x.0 y.0) kept.terms i ≡ Some r → HasTerm s i × IsTermOf s (solved_term bs (term_of s i)) r
