@@ -31,24 +31,25 @@ has_tells (w ∷ ws) v = elim (same_variable_tells v w) [
 
 among_distinct : (vs : List Variable) (v : Variable) → Among v vs → Among v (distinct vs)
 among_distinct [] v h = h
-among_distinct (w ∷ ws) v h = go (has_variable ws w) (has_tells ws w)
+among_distinct (w ∷ ws) v h = go (λ u a. among_distinct ws u a) (has_variable ws w) (has_tells ws w)
   where
-    go : (b : Bool) → Tells b (Among w ws) → Among v (if b then distinct ws else w ∷ distinct ws)
-    go true (inl x) = elim h [ inl e ↦ subst (λ u. Among u (distinct ws)) (sym e) (among_distinct ws w x.1) | inr a ↦ among_distinct ws v a ]
-    go true (inr x) = cc
-    go false t = elim h [ inl e ↦ inl e | inr a ↦ inr (among_distinct ws v a) ]
+    go : ((u : Variable) → Among u ws → Among u (distinct ws)) → (b : Bool) → Tells b (Among w ws) → Among v (if b then distinct ws else w ∷ distinct ws)
+    go rest true (inl x) = elim h [ inl e ↦ subst (λ u. Among u (distinct ws)) (sym e) (rest w x.1) | inr a ↦ rest v a ]
+    go rest true (inr x) = cc
+    go rest false t = elim h [ inl e ↦ inl e | inr a ↦ inr (rest v a) ]
 
 -- a list that has all of them is no shorter
 least : (vs ws : List Variable) → ((v : Variable) → Among v vs → Among v ws) → length (distinct vs) ≤ length ws
 least [] ws h = omega arith
-least (v ∷ vs) ws h = go (has_variable vs v) (has_tells vs v)
+least (v ∷ vs) ws h = go (λ us k. least vs us k) (has_variable vs v) (has_tells vs v)
   where
-    go : (b : Bool) → Tells b (Among v vs) → length (if b then distinct vs else v ∷ distinct vs) ≤ length ws
-    go true t = least vs ws (λ u a. h u (inr a))
-    go false (inl x) = cc
-    go false (inr x) =
+    go : ((us : List Variable) → ((u : Variable) → Among u vs → Among u us) → length (distinct vs) ≤ length us)
+        → (b : Bool) → Tells b (Among v vs) → length (if b then distinct vs else v ∷ distinct vs) ≤ length ws
+    go rest true t = rest ws (λ u a. h u (inr a))
+    go rest false (inl x) = cc
+    go rest false (inr x) =
         let w = without v ws (h v (inl refl)) in
-        let n = least vs w.0 (λ u a. w.2 u (h u (inr a)) (λ e. x.1 (subst (λ z. Among z vs) e a))) in
+        let n = rest w.0 (λ u a. w.2 u (h u (inr a)) (λ e. x.1 (subst (λ z. Among z vs) e a))) in
         omega (arith, n, w.1)
 
 among_cases : (v : Variable) (xs ys : List Variable) → Among v (xs ++ ys) → Among v xs ⊎ Among v ys

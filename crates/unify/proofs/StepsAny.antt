@@ -32,13 +32,13 @@ solved_solves a bs g (Equation.of_types s t) h = sym (agrees_type a bs g s) ∙ 
 solved_solves a bs g (Equation.of_terms s t) h = sym (agrees_term a bs g s) ∙ ap (put_term a) h ∙ agrees_term a bs g t
 
 -- a substitution that solves one binding more
-fewer_agree : (a : Substitution) (b : trees.Binding) (bs : List trees.Binding) → Agrees a (b ∷ bs) → Agrees a bs
+pub fewer_agree : (a : Substitution) (b : trees.Binding) (bs : List trees.Binding) → Agrees a (b ∷ bs) → Agrees a bs
 fewer_agree a (trees.Binding.of_type m u) bs g = g.1
 fewer_agree a (trees.Binding.of_term m k u) bs g = g.1
 
 -- marks that are right stay so under more bindings
 module _ (s : Tables) (bs : List trees.Binding) (b : trees.Binding) where
-  abbrev earlier : ((a : Substitution) × Agrees a (b ∷ bs)) → (a : Substitution) × Agrees a bs
+  abbrev pub earlier : ((a : Substitution) × Agrees a (b ∷ bs)) → (a : Substitution) × Agrees a bs
   earlier a = (a.0, fewer_agree a.0 b bs a.1)
 
   gives_later : (a : (x : Substitution) × Agrees x (b ∷ bs)) (t : Task) → GivesTask s bs (earlier a) t → GivesTask s (b ∷ bs) a t

@@ -7,7 +7,7 @@ use Rattle.unify.specs.Binding as trees
 use Rattle.unify.specs.declared.binding.Binding.{Binding}
 use Rattle.unify.specs.declared.binding.Binding.TheVariants.{OfTerm, OfType}
 
--- the binding's ids are those of the store, and a type metavariable over terms with its right side is stored, too
+-- the binding's ids are those of the store, and a metavariable over terms with a bound type as its own may stand there, too
 abbrev pub HasBinding : Tables → Binding → Type 0
 HasBinding s (OfTerm m t u) = HasType s t × HasTerm s u
 HasBinding s (OfType m t) = HasType s t × (type_depth (type_of s t) < 2000)

@@ -55,14 +55,12 @@ fn split(
                 if f.0 != g.0 {
                     return Ok(Step::Clashes);
                 }
+                let ss = ss.as_slice();
+                let ts = ts.as_slice();
+                let us = us.as_slice();
+                let vs = vs.as_slice();
                 tasks.push(Task::TermsDone(left, right))?;
-                if push_parts(
-                    tasks,
-                    ss.as_slice(),
-                    ts.as_slice(),
-                    us.as_slice(),
-                    vs.as_slice(),
-                )? {
+                if push_parts(tasks, ss, ts, us, vs)? {
                     Ok(Step::Goes)
                 } else {
                     Ok(Step::Clashes)
