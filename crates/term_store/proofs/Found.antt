@@ -70,7 +70,7 @@ depths_push : {T : Type 0} (f : T → ℕ) (ts : List T) (ds : List ℕ) (t : T)
 depths_push f ts ds t d e g = ap (λ x. x ++ d ∷ []) e ∙ ap (λ x. map f ts ++ x ∷ []) g ∙ sym (map-append f ts (t ∷ []))
 
 -- one depth is bounded
-depth_bounded : {T : Type 0} (f : T → ℕ) (ts : List T) (ds : List ℕ) → ds ≡ map f ts → All (λ x. x ≤ 2000) ds → (i : ℕ) (d : T) → i < length ts → f (get_or ts i d) ≤ 2000
+pub depth_bounded : {T : Type 0} (f : T → ℕ) (ts : List T) (ds : List ℕ) → ds ≡ map f ts → All (λ x. x ≤ 2000) ds → (i : ℕ) (d : T) → i < length ts → f (get_or ts i d) ≤ 2000
 depth_bounded f ts ds e h i d l =
     let len : length (map f ts) ≡ length ts = length-map ts f in
     let b = subst (All (λ x. x ≤ 2000)) e h in
@@ -111,10 +111,10 @@ sound_at ts ds us es fs gs s e f g h a x y z p q r = record {
 }
 
 -- a table of terms over all types, and of formulas over all terms
-over_types : (T : List tree.Ty) {k : ℕ} → length T ≡ k → (us more : List tree.Term) (n : TermNode) → TermFits k (length us) n → make_term T (us ++ more) n ≡ make_term T us n
+pub over_types : (T : List tree.Ty) {k : ℕ} → length T ≡ k → (us more : List tree.Term) (n : TermNode) → TermFits k (length us) n → make_term T (us ++ more) n ≡ make_term T us n
 over_types T e us more n f = subst (λ t. make_term t (us ++ more) n ≡ make_term T us n) (append-nil T) (make_term_stays T [] us more n (subst (λ k. TermFits k (length us) n) (sym e) f))
 
-over_terms : (T : List tree.Ty) (U : List tree.Term) {k m : ℕ} → length T ≡ k → length U ≡ m → (fs more : List tree.Form) (n : FormNode) → FormFits k m (length fs) n → make_form T U (fs ++ more) n ≡ make_form T U fs n
+pub over_terms : (T : List tree.Ty) (U : List tree.Term) {k m : ℕ} → length T ≡ k → length U ≡ m → (fs more : List tree.Form) (n : FormNode) → FormFits k m (length fs) n → make_form T U (fs ++ more) n ≡ make_form T U fs n
 over_terms T U {k = k} e g fs more n f =
     subst (λ u. make_form T u (fs ++ more) n ≡ make_form T U fs n) (append-nil U) (subst (λ t. make_form t (U ++ []) (fs ++ more) n ≡ make_form T U fs n) (append-nil T)
       (make_form_stays T [] U [] fs more n (subst (λ j. FormFits j (length U) (length fs) n) (sym e) (subst (λ m. FormFits k m (length fs) n) (sym g) f))))

@@ -6,3 +6,5 @@ pub mod Loops
 pub mod Step
 pub mod Kept
 pub mod Read
+pub mod Stays
+pub mod Changes

@@ -1,6 +1,6 @@
 -- Opening and closing as one: what a walk through a tree does at its leaves.
 use Rattle.std.specs.Prelude.{ℕ, ◌≡◌, ◌<◌, ◌==◌, if◌then◌else◌, Bool, false, Some, length, List}
-use Rattle.indexmap.specs.IndexMap.{get}
+use Rattle.indexmap.specs.IndexMap.{IndexMap, get}
 use Rattle.zm_logic.specs.Tree as tree
 use Rattle.zm_logic.specs.Opening as opening
 use Rattle.term_store.specs.declared.change.Change.{Change}
@@ -89,11 +89,20 @@ AreTermIds s us is = TermsBelow (length s.terms) is × (terms_at (all_trees s).t
 abbrev pub IsFormNode : Tables → tree.Form → FormNode → Type 0
 IsFormNode s f n = HasFormParts s n × (form_node s n ≡ f)
 
--- each tree that the memo has is changed
+-- each tree that was noted is changed: the place of the new tree stands beside its own
+abbrev pub KnowTypes : {S : Type 0} → Tables → Change → IndexMap Place ℕ S → Type 0
+KnowTypes s c made = (p : Place) (r : ℕ) → get same_place made p ≡ Some r
+    → (p.tree < length s.types) × IsTypeId s (changed_type p.binders (change_of s c) (type_of s (record { 0 = p.tree }))) (record { 0 = r })
+
+abbrev pub KnowTerms : {S : Type 0} → Tables → Change → IndexMap Place ℕ S → Type 0
+KnowTerms s c made = (p : Place) (r : ℕ) → get same_place made p ≡ Some r
+    → (p.tree < length s.terms) × IsTermId s (changed_term p.binders (change_of s c) (term_of s (record { 0 = p.tree }))) (record { 0 = r })
+
+abbrev pub KnowForms : {S : Type 0} → Tables → Change → IndexMap Place ℕ S → Type 0
+KnowForms s c made = (p : Place) (r : ℕ) → get same_place made p ≡ Some r
+    → (p.tree < length s.forms) × IsFormId s (changed_form p.binders (change_of s c) (form_of s (record { 0 = p.tree }))) (record { 0 = r })
+
 pub record Knows (s : Tables) (c : Change) (m : Memo) : Type 0 where
-  pub types : (p : Place) (r : ℕ) → get same_place m.types p ≡ Some r
-      → (p.tree < length s.types) × IsTypeId s (changed_type p.binders (change_of s c) (type_of s (record { 0 = p.tree }))) (record { 0 = r })
-  pub terms : (p : Place) (r : ℕ) → get same_place m.terms p ≡ Some r
-      → (p.tree < length s.terms) × IsTermId s (changed_term p.binders (change_of s c) (term_of s (record { 0 = p.tree }))) (record { 0 = r })
-  pub forms : (p : Place) (r : ℕ) → get same_place m.forms p ≡ Some r
-      → (p.tree < length s.forms) × IsFormId s (changed_form p.binders (change_of s c) (form_of s (record { 0 = p.tree }))) (record { 0 = r })
+  pub types : KnowTypes s c m.types
+  pub terms : KnowTerms s c m.terms
+  pub forms : KnowForms s c m.forms

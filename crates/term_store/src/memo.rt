@@ -1,6 +1,7 @@
-ghost use Rattle.std.specs.Prelude.{◌≡◌, Some, OnOk};
+ghost use Rattle.std.specs.Prelude.{◌≡◌, Some, OnOk, IsOkUnless};
 ghost use Rattle.indexmap.specs.IndexMap.{get, IsEmpty, Updates};
 ghost use Rattle.term_store.specs.Memo.{same_place};
+ghost use Rattle.term_store.specs.declared.fault.EnterFault.TheVariants.{Memory};
 
 use crate::fault::EnterFault;
 use indexmap::IndexMap;
@@ -44,7 +45,8 @@ pub(crate) fn recall(made: &IndexMap<Place, usize>, place: Place) -> Option<usiz
 
 /// Notes what was made of the tree at a place.
 pub(crate) fn note(made: &mut IndexMap<Place, usize>, place: Place, tree: usize) -> Result<(), EnterFault>
-    ensures { OnOk result (Updates same_place made.old made.new place (Some tree)) }
+    ensures noted { OnOk result (Updates same_place made.old made.new place (Some tree)) }
+    ensures memory { IsOkUnless result Memory }
 {
     made.insert(place, tree)?;
     Ok(())
