@@ -107,3 +107,12 @@ pub term_depth_at_within : (U : List tree.Term) (is : List TermId) (j : ℕ) (d 
 term_depth_at_within U [] j d l = absurd (omega arith)
 term_depth_at_within U (i ∷ is) zero d l = omega arith
 term_depth_at_within U (i ∷ is) (suc j) d l = omega (arith, term_depth_at_within U is j d (omega arith))
+
+-- the trees of a list of ids, one further
+pub type_trees_more : (T : List tree.Ty) (is : List TyId) (ts : List Ty) (j : ℕ) (d : TyId) (t : Ty) → j < length is
+    → types_tree ts ≡ types_at T (take j is) → type_tree t ≡ type_at T (get_or is j d) → types_tree (ts ++ t ∷ []) ≡ types_at T (take (j + 1) is)
+type_trees_more T is ts j d t l h e = rw (take_more is j d l, types_tree_push ts t, types_at_push T (take j is) (get_or is j d), h, e)
+
+pub term_trees_more : (U : List tree.Term) (is : List TermId) (us : List Term) (j : ℕ) (d : TermId) (u : Term) → j < length is
+    → terms_tree us ≡ terms_at U (take j is) → term_tree u ≡ term_at U (get_or is j d) → terms_tree (us ++ u ∷ []) ≡ terms_at U (take (j + 1) is)
+term_trees_more U is us j d u l h e = rw (take_more is j d l, terms_tree_push us u, terms_at_push U (take j is) (get_or is j d), h, e)

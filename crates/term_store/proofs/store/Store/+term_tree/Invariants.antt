@@ -12,4 +12,4 @@ abbrev pub decreases-term_trees : goal.decreases-term_trees
 decreases-term_trees l = 2 * terms_depth (terms_at (all_trees l.self.now).terms l.ids.now) + 1
 
 abbrev pub invariant-term_trees-loop-id : goal.invariant-term_trees-loop-id
-invariant-term_trees-loop-id l = terms_tree l.all ≡ terms_at (all_trees l.self.now).terms (take l.id-index l.id-items)
+invariant-term_trees-loop-id l = terms_tree l.all ≡ terms_at (all_trees l.self).terms (take l.id-index l.id-items)

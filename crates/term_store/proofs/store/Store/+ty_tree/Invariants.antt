@@ -12,4 +12,4 @@ abbrev pub decreases-ty_trees : goal.decreases-ty_trees
 decreases-ty_trees l = 2 * types_depth (types_at (all_trees l.self.now).types l.ids.now) + 1
 
 abbrev pub invariant-ty_trees-loop-id : goal.invariant-ty_trees-loop-id
-invariant-ty_trees-loop-id l = types_tree l.all ≡ types_at (all_trees l.self.now).types (take l.id-index l.id-items)
+invariant-ty_trees-loop-id l = types_tree l.all ≡ types_at (all_trees l.self).types (take l.id-index l.id-items)
