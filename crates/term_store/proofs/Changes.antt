@@ -9,7 +9,6 @@ use Rattle.zm_logic.specs.Opening as opening
 use Rattle.zm_logic.proofs.Lists.{with_type, with_term, open_with_type, open_with_term, close_with_type, close_with_term}
 use Rattle.term_store.specs.declared.change.Change.{Change}
 use Rattle.term_store.specs.declared.change.Change.TheVariants.{Opens, Closes}
-use Rattle.term_store.specs.declared.opening.Opening.{Opening}
 use Rattle.term_store.specs.declared.opening.Opening.TheVariants.{OfTerm, OfType}
 use Rattle.term_store.specs.declared.memo.Place.{Place}
 use Rattle.term_store.specs.declared.memo.Memo.{Memo}
@@ -21,25 +20,17 @@ use Rattle.term_store.specs.Node.{type_at, types_at, term_at, terms_at, TypesBel
 use Rattle.term_store.specs.Open.{HasPart, part_of}
 use Rattle.term_store.specs.Trees.{Tables, all_trees, HasType, HasTerm, HasForm, type_of, term_of, form_of, Extends}
 use Rattle.term_store.specs.Change.{TreeChange, changed_type, changed_types, changed_term, changed_terms, changed_form, HasChange, change_of, is_closed, type_put, term_put, IsTypeId, IsTermId, IsFormId, KnowTypes, KnowTerms, KnowForms, Knows}
-use Rattle.term_store.proofs.Kept.{still_type, still_term, still_form, kept_type, kept_term, kept_form, kept_types, kept_terms}
+use Rattle.term_store.proofs.Kept.{still_type, still_term, still_form, still_part, kept_part, kept_type, kept_term, kept_form, kept_types, kept_terms}
 use Rattle.term_store.proofs.Stays.{type_id_stays, term_id_stays, form_id_stays}
 
 -- in a later store
 module _ (s t : Tables) (e : Extends s t) where
-  part_stays : (w : Opening) → HasPart s w → HasPart t w
-  part_stays (OfTerm u) h = still_term s t e u h
-  part_stays (OfType u) h = still_type s t e u h
-
-  part_kept : (w : Opening) → HasPart s w → part_of t w ≡ part_of s w
-  part_kept (OfTerm u) h = ap tree.Opening.of_term (kept_term s t e u h)
-  part_kept (OfType u) h = ap tree.Opening.of_type (kept_type s t e u h)
-
   pub change_stays : (c : Change) → HasChange s c → HasChange t c
-  change_stays (Opens w) h = part_stays w h
+  change_stays (Opens w) h = still_part s t e w h
   change_stays (Closes n) h = tt
 
   pub change_kept : (c : Change) → HasChange s c → change_of t c ≡ change_of s c
-  change_kept (Opens w) h = ap TreeChange.opens (part_kept w h)
+  change_kept (Opens w) h = ap TreeChange.opens (kept_part s t e w h)
   change_kept (Closes n) h = refl
 
   module _ (c : Change) (h : HasChange s c) (k : ℕ) where
@@ -65,11 +56,11 @@ module _ (s t : Tables) (e : Extends s t) where
   pub knows_stays : (c : Change) → HasChange s c → (m : Memo) → Knows s c m → Knows t c m
   knows_stays c h m k = record {
     types = λ p r g. (let i : TyId = record { 0 = p.tree } in let j : TyId = record { 0 = r } in let w = k.types p r g in
-      (still_type s t e i w.0, subst (λ x. IsTypeId t x j) (sym (type_goal c h p.binders i w.0)) (type_id_stays s t e (changed_type p.binders (change_of s c) (type_of s i)) j w.1)));
+        (still_type s t e i w.0, subst (λ x. IsTypeId t x j) (sym (type_goal c h p.binders i w.0)) (type_id_stays s t e (changed_type p.binders (change_of s c) (type_of s i)) j w.1)));
     terms = λ p r g. (let i : TermId = record { 0 = p.tree } in let j : TermId = record { 0 = r } in let w = k.terms p r g in
-      (still_term s t e i w.0, subst (λ x. IsTermId t x j) (sym (term_goal c h p.binders i w.0)) (term_id_stays s t e (changed_term p.binders (change_of s c) (term_of s i)) j w.1)));
+        (still_term s t e i w.0, subst (λ x. IsTermId t x j) (sym (term_goal c h p.binders i w.0)) (term_id_stays s t e (changed_term p.binders (change_of s c) (term_of s i)) j w.1)));
     forms = λ p r g. (let i : FormId = record { 0 = p.tree } in let j : FormId = record { 0 = r } in let w = k.forms p r g in
-      (still_form s t e i w.0, subst (λ x. IsFormId t x j) (sym (form_goal c h p.binders i w.0)) (form_id_stays s t e (changed_form p.binders (change_of s c) (form_of s i)) j w.1)));
+        (still_form s t e i w.0, subst (λ x. IsFormId t x j) (sym (form_goal c h p.binders i w.0)) (form_id_stays s t e (changed_form p.binders (change_of s c) (form_of s i)) j w.1)));
   }
 
 -- one more tree is noted

@@ -26,8 +26,6 @@ ltb_tells a b = by (nat_lt a b) refl
     by false e = inr (e, ltb-false a b e)
 
 module _ {A : Type 0} (p : A → Bool) (xs : List A) where
-
-
   flip : (b : Bool) → not b ≡ false → b ≡ true
   flip true e = refl
   flip false e = absurd (true≢false e)
@@ -39,24 +37,24 @@ module _ {A : Type 0} (p : A → Bool) (xs : List A) where
   -- the element at the position passes
   pub position_found : (i : ℕ) (d : A) → position p xs ≡ Some i → (i < length xs) × (p (get_or xs i d) ≡ true)
   position_found i d e = elim (ltb_tells (position_or_len p xs) (length xs)) [
-      | inl t ↦
-          (let z : cond (nat_lt (position_or_len p xs) (length xs)) (Some (position_or_len p xs)) None ≡ Some (position_or_len p xs) = rw t.0 refl in
-          let y : Some (position_or_len p xs) ≡ Some i = sym z ∙ e in
-          let w : position_or_len p xs ≡ i = cc in
-          subst (λ k. (k < length xs) × (p (get_or xs k d) ≡ true)) w (t.1, flip (p (get_or xs (position_or_len p xs) d)) (prefix_len_stops (λ x. not (p x)) xs d t.1)))
-      | inr t ↦
-          (let z : cond (nat_lt (position_or_len p xs) (length xs)) (Some (position_or_len p xs)) None ≡ None = rw t.0 refl in
-          let y : None ≡ Some i = sym z ∙ e in absurd (cc))
-    ]
+    | inl t ↦
+        (let z : cond (nat_lt (position_or_len p xs) (length xs)) (Some (position_or_len p xs)) None ≡ Some (position_or_len p xs) = rw t.0 refl in
+        let y : Some (position_or_len p xs) ≡ Some i = sym z ∙ e in
+        let w : position_or_len p xs ≡ i = cc in
+        subst (λ k. (k < length xs) × (p (get_or xs k d) ≡ true)) w (t.1, flip (p (get_or xs (position_or_len p xs) d)) (prefix_len_stops (λ x. not (p x)) xs d t.1)))
+    | inr t ↦
+        (let z : cond (nat_lt (position_or_len p xs) (length xs)) (Some (position_or_len p xs)) None ≡ None = rw t.0 refl in
+        let y : None ≡ Some i = sym z ∙ e in absurd (cc))
+  ]
 
   -- where there is none, no element passes
   pub position_absent : position p xs ≡ None → (k : ℕ) (d : A) → k < length xs → p (get_or xs k d) ≡ false
   position_absent e k d h = elim (ltb_tells (position_or_len p xs) (length xs)) [
-      | inl t ↦
-          (let z : cond (nat_lt (position_or_len p xs) (length xs)) (Some (position_or_len p xs)) None ≡ Some (position_or_len p xs) = rw t.0 refl in
-          let y : None ≡ Some (position_or_len p xs) = sym e ∙ z in absurd (cc))
-      | inr t ↦ flop (p (get_or xs k d)) (prefix_len_passes (λ x. not (p x)) xs k d (omega (arith, t.1)))
-    ]
+    | inl t ↦
+        (let z : cond (nat_lt (position_or_len p xs) (length xs)) (Some (position_or_len p xs)) None ≡ Some (position_or_len p xs) = rw t.0 refl in
+        let y : None ≡ Some (position_or_len p xs) = sym e ∙ z in absurd (cc))
+    | inr t ↦ flop (p (get_or xs k d)) (prefix_len_passes (λ x. not (p x)) xs k d (omega (arith, t.1)))
+  ]
 
 -- a bound for all, and for one more
 pub bounded_push : (ds : List ℕ) (d : ℕ) → All (λ x. x ≤ 2000) ds → d ≤ 2000 → All (λ x. x ≤ 2000) (ds ++ d ∷ [])
@@ -82,7 +80,7 @@ module _ (ts : List TyNode) (more : List tree.Ty) where
       → trees (make_term (trees make_type ts ++ more)) us ≡ trees (make_term (trees make_type ts)) us
   grown_terms us f = trees_from_same (make_term (trees make_type ts ++ more)) (make_term (trees make_type ts)) (TermFits (length ts))
       (λ vs n h. subst (λ v. make_term (trees make_type ts ++ more) v n ≡ make_term (trees make_type ts) vs n) (append-nil vs)
-        (make_term_stays (trees make_type ts) more vs [] n (subst (λ k. TermFits k (length vs) n) (sym (trees_length make_type ts)) h))) [] us f
+      (make_term_stays (trees make_type ts) more vs [] n (subst (λ k. TermFits k (length vs) n) (sym (trees_length make_type ts)) h))) [] us f
 
   pub grown_forms : (us : List TermNode) (vs : List tree.Term) (fs : List FormNode) → AllFit (FormFits (length ts) (length us)) 0 fs
       → trees (make_form (trees make_type ts ++ more) (trees (make_term (trees make_type ts)) us ++ vs)) fs ≡ trees (make_form (trees make_type ts) (trees (make_term (trees make_type ts)) us)) fs
@@ -90,7 +88,7 @@ module _ (ts : List TyNode) (more : List tree.Ty) where
       let T = trees make_type ts in let U = trees (make_term T) us in
       trees_from_same (make_form (T ++ more) (U ++ vs)) (make_form T U) (FormFits (length ts) (length us))
       (λ gs n h. subst (λ g. make_form (T ++ more) (U ++ vs) g n ≡ make_form T U gs n) (append-nil gs)
-        (make_form_stays T more U vs gs [] n (subst (λ k. FormFits k (length U) (length gs) n) (sym (trees_length make_type ts)) (subst (λ k. FormFits (length ts) k (length gs) n) (sym (trees_length (make_term T) us)) h)))) [] fs f
+      (make_form_stays T more U vs gs [] n (subst (λ k. FormFits k (length U) (length gs) n) (sym (trees_length make_type ts)) (subst (λ k. FormFits (length ts) k (length gs) n) (sym (trees_length (make_term T) us)) h)))) [] fs f
 
 -- the parts of soundness, at the trees that the tables give
 sound_at : (ts : List TyNode) (ds : List ℕ) (us : List TermNode) (es : List ℕ) (fs : List FormNode) (gs : List ℕ) (s : Trees) → trees_of ts us fs ≡ s
@@ -117,7 +115,7 @@ over_types T e us more n f = subst (λ t. make_term t (us ++ more) n ≡ make_te
 pub over_terms : (T : List tree.Ty) (U : List tree.Term) {k m : ℕ} → length T ≡ k → length U ≡ m → (fs more : List tree.Form) (n : FormNode) → FormFits k m (length fs) n → make_form T U (fs ++ more) n ≡ make_form T U fs n
 over_terms T U {k = k} e g fs more n f =
     subst (λ u. make_form T u (fs ++ more) n ≡ make_form T U fs n) (append-nil U) (subst (λ t. make_form t (U ++ []) (fs ++ more) n ≡ make_form T U fs n) (append-nil T)
-      (make_form_stays T [] U [] fs more n (subst (λ j. FormFits j (length U) (length fs) n) (sym e) (subst (λ m. FormFits k m (length fs) n) (sym g) f))))
+    (make_form_stays T [] U [] fs more n (subst (λ j. FormFits j (length U) (length fs) n) (sym e) (subst (λ m. FormFits k m (length fs) n) (sym g) f))))
 
 module _ (ts : List TyNode) (ds : List ℕ) (us : List TermNode) (es : List ℕ) (fs : List FormNode) (gs : List ℕ) (h : IsSound ts ds us es fs gs) where
   -- a type node that is found
@@ -149,12 +147,12 @@ module _ (ts : List TyNode) (ds : List ℕ) (us : List TermNode) (es : List ℕ)
       let len = length_more ts n in
       let fits : TypeFits (0 + length ts) n = subst (λ k. TypeFits k n) (trees_length make_type ts ∙ omega arith) f in
       let new : (k : ℕ) (c : tree.Ty) → k < length T → get_or T k c ≢ t = λ k c b g.
-        (let b' : k < length ts = omega (arith, b, trees_length make_type ts) in
-        let node = get_or ts k n in
-        let same : make_type T n ≡ make_type T node = sym g ∙ trees_at make_type TypeFits make_type_stays ts h.types_fit k c n b' in
-        let here : TypeFits (length T) node = subst (λ m. TypeFits m node) (omega (arith, trees_length make_type ts)) (fit_at TypeFits type_fits_more 0 ts h.types_fit k n b') in
-        let is : n ≡ node = make_type_same T h.shared.types n node f here same in
-        true≢false (sym (subst (λ m. type_eq n m ≡ true) is (type_self n)) ∙ position_absent (type_eq n) ts e k n b')) in
+      (let b' : k < length ts = omega (arith, b, trees_length make_type ts) in
+      let node = get_or ts k n in
+      let same : make_type T n ≡ make_type T node = sym g ∙ trees_at make_type TypeFits make_type_stays ts h.types_fit k c n b' in
+      let here : TypeFits (length T) node = subst (λ m. TypeFits m node) (omega (arith, trees_length make_type ts)) (fit_at TypeFits type_fits_more 0 ts h.types_fit k n b') in
+      let is : n ≡ node = make_type_same T h.shared.types n node f here same in
+      true≢false (sym (subst (λ m. type_eq n m ≡ true) is (type_self n)) ∙ position_absent (type_eq n) ts e k n b')) in
       sound_at (ts ++ n ∷ []) (ds ++ d ∷ []) us es fs gs _ (type_grows n)
       (fit_push TypeFits 0 ts n h.types_fit fits)
       (fit_more (TermFits (length ts)) (TermFits (length (ts ++ n ∷ []))) (λ k m g. term_fits_more (length ts) (length (ts ++ n ∷ [])) k k m (omega (arith, len)) (omega arith) g) 0 us h.terms_fit)
@@ -194,13 +192,13 @@ module _ (ts : List TyNode) (ds : List ℕ) (us : List TermNode) (es : List ℕ)
       let g : TermFits (length ts) (length U) n = subst (λ k. TermFits k (length U) n) (trees_length make_type ts) f in
       let fits : TermFits (length ts) (0 + length us) n = subst (λ k. TermFits (length ts) k n) (trees_length (make_term T) us ∙ omega arith) g in
       let new : (k : ℕ) (c : tree.Term) → k < length U → get_or U k c ≢ u = λ k c b g.
-        (let b' : k < length us = omega (arith, b, trees_length (make_term T) us) in
-        let node = get_or us k n in
-        let same : make_term T U n ≡ make_term T U node = sym g ∙ trees_at (make_term T) (TermFits (length ts)) stays us h.terms_fit k c n b' in
-        let here : TermFits (length T) (length U) node = term_fits_more (length ts) (length T) (0 + length us) (length U) node (omega (arith, trees_length make_type ts)) (omega (arith, trees_length (make_term T) us))
-          (fit_at (TermFits (length ts)) (λ i j m w. term_fits_more (length ts) (length ts) i j m (omega arith) w) 0 us h.terms_fit k n b') in
-        let is : n ≡ node = make_term_same T h.shared.types U h.shared.terms n node f here same in
-        true≢false (sym (subst (λ m. term_eq n m ≡ true) is (term_self n)) ∙ position_absent (term_eq n) us e k n b')) in
+      (let b' : k < length us = omega (arith, b, trees_length (make_term T) us) in
+      let node = get_or us k n in
+      let same : make_term T U n ≡ make_term T U node = sym g ∙ trees_at (make_term T) (TermFits (length ts)) stays us h.terms_fit k c n b' in
+      let here : TermFits (length T) (length U) node = term_fits_more (length ts) (length T) (0 + length us) (length U) node (omega (arith, trees_length make_type ts)) (omega (arith, trees_length (make_term T) us))
+      (fit_at (TermFits (length ts)) (λ i j m w. term_fits_more (length ts) (length ts) i j m (omega arith) w) 0 us h.terms_fit k n b') in
+      let is : n ≡ node = make_term_same T h.shared.types U h.shared.terms n node f here same in
+      true≢false (sym (subst (λ m. term_eq n m ≡ true) is (term_self n)) ∙ position_absent (term_eq n) us e k n b')) in
       sound_at ts ds (us ++ n ∷ []) (es ++ d ∷ []) fs gs _ (term_grows n)
       h.types_fit
       (fit_push (TermFits (length ts)) 0 us n h.terms_fit fits)
@@ -234,16 +232,16 @@ module _ (ts : List TyNode) (ds : List ℕ) (us : List TermNode) (es : List ℕ)
       let T = trees make_type ts in let U = trees (make_term T) us in let F = trees (make_form T U) fs in let v = make_form T U F n in
       let stays = over_terms T U (trees_length make_type ts) (trees_length (make_term T) us) in
       let fits : FormFits (length ts) (length us) (0 + length fs) n =
-        form_fits_more (length T) (length ts) (length U) (length us) (length F) (0 + length fs) n (omega (arith, trees_length make_type ts)) (omega (arith, trees_length (make_term T) us)) (omega (arith, trees_length (make_form T U) fs)) f in
+      form_fits_more (length T) (length ts) (length U) (length us) (length F) (0 + length fs) n (omega (arith, trees_length make_type ts)) (omega (arith, trees_length (make_term T) us)) (omega (arith, trees_length (make_form T U) fs)) f in
       let new : (k : ℕ) (c : tree.Form) → k < length F → get_or F k c ≢ v = λ k c b g.
-        (let b' : k < length fs = omega (arith, b, trees_length (make_form T U) fs) in
-        let node = get_or fs k n in
-        let same : make_form T U F n ≡ make_form T U F node = sym g ∙ trees_at (make_form T U) (FormFits (length ts) (length us)) stays fs h.forms_fit k c n b' in
-        let here : FormFits (length T) (length U) (length F) node =
-          form_fits_more (length ts) (length T) (length us) (length U) (0 + length fs) (length F) node (omega (arith, trees_length make_type ts)) (omega (arith, trees_length (make_term T) us)) (omega (arith, trees_length (make_form T U) fs))
-          (fit_at (FormFits (length ts) (length us)) (λ i j m w. form_fits_more (length ts) (length ts) (length us) (length us) i j m (omega arith) (omega arith) w) 0 fs h.forms_fit k n b') in
-        let is : n ≡ node = make_form_same T h.shared.types U h.shared.terms F h.shared.forms n node f here same in
-        true≢false (sym (subst (λ m. form_eq n m ≡ true) is (form_self n)) ∙ position_absent (form_eq n) fs e k n b')) in
+      (let b' : k < length fs = omega (arith, b, trees_length (make_form T U) fs) in
+      let node = get_or fs k n in
+      let same : make_form T U F n ≡ make_form T U F node = sym g ∙ trees_at (make_form T U) (FormFits (length ts) (length us)) stays fs h.forms_fit k c n b' in
+      let here : FormFits (length T) (length U) (length F) node =
+      form_fits_more (length ts) (length T) (length us) (length U) (0 + length fs) (length F) node (omega (arith, trees_length make_type ts)) (omega (arith, trees_length (make_term T) us)) (omega (arith, trees_length (make_form T U) fs))
+      (fit_at (FormFits (length ts) (length us)) (λ i j m w. form_fits_more (length ts) (length ts) (length us) (length us) i j m (omega arith) (omega arith) w) 0 fs h.forms_fit k n b') in
+      let is : n ≡ node = make_form_same T h.shared.types U h.shared.terms F h.shared.forms n node f here same in
+      true≢false (sym (subst (λ m. form_eq n m ≡ true) is (form_self n)) ∙ position_absent (form_eq n) fs e k n b')) in
       sound_at ts ds us es (fs ++ n ∷ []) (gs ++ d ∷ []) _ (form_grows n)
       h.types_fit h.terms_fit (fit_push (FormFits (length ts) (length us)) 0 fs n h.forms_fit fits)
       (record { types = h.shared.types; terms = h.shared.terms; forms = distinct_push F v h.shared.forms new })

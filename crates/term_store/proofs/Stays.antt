@@ -17,8 +17,7 @@ use Rattle.term_store.specs.Change.{IsTypeId, IsTermId, IsFormId, AreTypeIds, Ar
 use Rattle.term_store.specs.declared.fault.EnterFault.{EnterFault}
 use Rattle.term_store.specs.declared.fault.EnterFault.TheVariants as entered
 use Rattle.term_store.specs.Fault.{IfTooDeep}
-use Rattle.term_store.proofs.Nodes.{types_below, terms_below}
-use Rattle.term_store.proofs.Kept.{still_type, still_term, still_form, kept_type, kept_term, kept_form, kept_types, kept_terms, more_types, more_terms}
+use Rattle.term_store.proofs.Kept.{still_type, still_term, still_form, kept_type, kept_term, kept_form, kept_types, kept_terms, still_types, still_terms}
 
 module _ (s t : Tables) (e : Extends s t) where
   pub type_id_stays : (x : tree.Ty) (i : TyId) → IsTypeId s x i → IsTypeId t x i
@@ -30,17 +29,11 @@ module _ (s t : Tables) (e : Extends s t) where
   pub form_id_stays : (x : tree.Form) (i : FormId) → IsFormId s x i → IsFormId t x i
   form_id_stays x i h = (still_form s t e i h.0, kept_form s t e i h.0 ∙ h.1)
 
-  pub types_still : (is : List TyId) → TypesBelow (length s.types) is → TypesBelow (length t.types) is
-  types_still is h = types_below (length s.types) (length t.types) is (more_types s t e) h
-
-  pub terms_still : (is : List TermId) → TermsBelow (length s.terms) is → TermsBelow (length t.terms) is
-  terms_still is h = terms_below (length s.terms) (length t.terms) is (more_terms s t e) h
-
   pub type_ids_stay : (xs : tree.Tys) (is : List TyId) → AreTypeIds s xs is → AreTypeIds t xs is
-  type_ids_stay xs is h = (types_still is h.0, kept_types s t e is h.0 ∙ h.1)
+  type_ids_stay xs is h = (still_types s t e is h.0, kept_types s t e is h.0 ∙ h.1)
 
   pub term_ids_stay : (xs : tree.Terms) (is : List TermId) → AreTermIds s xs is → AreTermIds t xs is
-  term_ids_stay xs is h = (terms_still is h.0, kept_terms s t e is h.0 ∙ h.1)
+  term_ids_stay xs is h = (still_terms s t e is h.0, kept_terms s t e is h.0 ∙ h.1)
 
 -- one id more
 types_at_push : (T : List tree.Ty) (is : List TyId) (i : TyId) → types_at T (is ++ i ∷ []) ≡ with_type (types_at T is) (type_at T i)

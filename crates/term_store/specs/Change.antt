@@ -52,6 +52,25 @@ abbrev pub change_of : Tables → Change → TreeChange
 change_of s (Opens w) = TreeChange.opens (part_of s w)
 change_of s (Closes n) = TreeChange.closes n
 
+-- the tree of an id, and the trees of a list of ids, with the change under k binders
+abbrev pub type_after : Tables → Change → ℕ → TyId → tree.Ty
+type_after s c k i = changed_type k (change_of s c) (type_of s i)
+
+abbrev pub types_after : Tables → Change → ℕ → List TyId → tree.Tys
+types_after s c k is = changed_types k (change_of s c) (types_at (all_trees s).types is)
+
+abbrev pub term_after : Tables → Change → ℕ → TermId → tree.Term
+term_after s c k i = changed_term k (change_of s c) (term_of s i)
+
+abbrev pub terms_after : Tables → Change → ℕ → List TermId → tree.Terms
+terms_after s c k is = changed_terms k (change_of s c) (terms_at (all_trees s).terms is)
+
+abbrev pub form_after : Tables → Change → ℕ → FormId → tree.Form
+form_after s c k i = changed_form k (change_of s c) (form_of s i)
+
+abbrev pub node_after : Tables → Change → ℕ → FormNode → tree.Form
+node_after s c k n = changed_form k (change_of s c) (form_node s n)
+
 -- the number is closed
 abbrev pub is_closed : Change → ℕ → Bool
 is_closed (Opens w) m = false

@@ -1,5 +1,8 @@
--- What is put for an index, and what a rule rewrites, as trees.
+-- What is put for an index, opened and closed formulas, and what a rule rewrites, as trees.
+use Rattle.std.specs.Prelude.{ℕ}
 use Rattle.zm_logic.specs.Tree as tree
+use Rattle.zm_logic.specs.Opening as opening
+use Rattle.term_store.specs.declared.ids.FormId.{FormId}
 use Rattle.term_store.specs.declared.opening.Opening.{Opening}
 use Rattle.term_store.specs.declared.opening.Opening.TheVariants as openings
 use Rattle.term_store.specs.declared.opening.Redex.{Redex}
@@ -25,3 +28,10 @@ HasRedex s (redexes.OfForm f) = HasForm s f
 abbrev pub redex_of : Tables → Redex → tree.Side
 redex_of s (redexes.OfTerm u) = tree.Side.of_term (term_of s u)
 redex_of s (redexes.OfForm f) = tree.Side.of_form (form_of s f)
+
+-- the formula with the part for index 0, and with index 0 for the number
+abbrev pub opened : Tables → FormId → Opening → tree.Form
+opened s f w = opening.open_at 0 (part_of s w) (form_of s f)
+
+abbrev pub closed : Tables → FormId → ℕ → tree.Form
+closed s f n = opening.close (form_of s f) n

@@ -2,7 +2,7 @@ ghost use Rattle.std.specs.Prelude.{◌≡◌, ◌+◌, ◌<◌, ◌≤◌, max,
 ghost use Rattle.zm_logic.specs.Measure.{type_depth, depth};
 ghost use Rattle.zm_logic.specs.Tree as tree;
 ghost use Rattle.term_store.specs.Trees.{HasType, type_of, HasForm, HasFormParts, form_of, form_node, Extends};
-ghost use Rattle.term_store.specs.Change.{HasChange, change_of, is_closed, changed_type, changed_form, IsTypeId, IsFormId, IsFormNode, Knows};
+ghost use Rattle.term_store.specs.Change.{HasChange, change_of, type_after, form_after, node_after, is_closed, changed_type, changed_form, IsTypeId, IsFormId, IsFormNode, Knows};
 ghost use Rattle.term_store.specs.Fault.{IfTooDeep};
 
 use crate::fault::EnterFault;
@@ -34,17 +34,26 @@ pub(crate) fn closes(change: Change, number: u64) -> bool
 impl Store {
     /// The formula with the change, under as many binders.
     #[cycle(change_form)]
-    pub(crate) fn change_form(&mut self, memo: &mut Memo, id: FormId, at: u32, change: Change) -> Result<FormId, EnterFault>
+    pub(crate) fn change_form(
+        &mut self,
+        memo: &mut Memo,
+        id: FormId,
+        at: u32,
+        change: Change,
+    ) -> Result<FormId, EnterFault>
         requires has { HasForm self.old id }
         requires part { HasChange self.old change }
         requires room { at + depth (form_of self.old id) ≤ 2000 }
         requires knows { Knows self.old change memo.old }
-        ensures made { IfOk result (IsFormId self.new (changed_form at (change_of self.old change) (form_of self.old id))) }
-        ensures deep { IfErr result (IfTooDeep (2000 < depth (changed_form at (change_of self.old change) (form_of self.old id)))) }
+        ensures made { IfOk result (IsFormId self.new (form_after self.old change at id)) }
+        ensures deep { IfErr result (IfTooDeep (2000 < depth (form_after self.old change at id))) }
         ensures kept { Extends self.old self.new }
         ensures knows { OnOk result (Knows self.new change memo.new) }
     {
-        let place = Place { tree: id.0, binders: at };
+        let place = Place {
+            tree: id.0,
+            binders: at,
+        };
         if let Some(made) = recall(&memo.forms, place) {
             return Ok(FormId(made));
         }
@@ -54,13 +63,19 @@ impl Store {
     }
 
     #[cycle(change_form)]
-    fn changed_form(&mut self, memo: &mut Memo, id: FormId, at: u32, change: Change) -> Result<FormId, EnterFault>
+    fn changed_form(
+        &mut self,
+        memo: &mut Memo,
+        id: FormId,
+        at: u32,
+        change: Change,
+    ) -> Result<FormId, EnterFault>
         requires has { HasForm self.old id }
         requires part { HasChange self.old change }
         requires room { at + depth (form_of self.old id) ≤ 2000 }
         requires knows { Knows self.old change memo.old }
-        ensures made { IfOk result (IsFormId self.new (changed_form at (change_of self.old change) (form_of self.old id))) }
-        ensures deep { IfErr result (IfTooDeep (2000 < depth (changed_form at (change_of self.old change) (form_of self.old id)))) }
+        ensures made { IfOk result (IsFormId self.new (form_after self.old change at id)) }
+        ensures deep { IfErr result (IfTooDeep (2000 < depth (form_after self.old change at id))) }
         ensures kept { Extends self.old self.new }
         ensures knows { OnOk result (Knows self.new change memo.new) }
     {
@@ -70,13 +85,19 @@ impl Store {
     }
 
     #[cycle(change_form)]
-    fn change_form_node(&mut self, memo: &mut Memo, node: &FormNode, at: u32, change: Change) -> Result<FormNode, EnterFault>
+    fn change_form_node(
+        &mut self,
+        memo: &mut Memo,
+        node: &FormNode,
+        at: u32,
+        change: Change,
+    ) -> Result<FormNode, EnterFault>
         requires has { HasFormParts self.old node.now }
         requires part { HasChange self.old change }
         requires room { at + depth (form_node self.old node.now) ≤ 2000 }
         requires knows { Knows self.old change memo.old }
-        ensures made { IfOk result (IsFormNode self.new (changed_form at (change_of self.old change) (form_node self.old node.now))) }
-        ensures deep { IfErr result (IfTooDeep (2000 < depth (changed_form at (change_of self.old change) (form_node self.old node.now)))) }
+        ensures made { IfOk result (IsFormNode self.new (node_after self.old change at node.now)) }
+        ensures deep { IfErr result (IfTooDeep (2000 < depth (node_after self.old change at node.now))) }
         ensures kept { Extends self.old self.new }
         ensures knows { OnOk result (Knows self.new change memo.new) }
     {
@@ -123,16 +144,23 @@ impl Store {
     }
 
     #[cycle(change_form)]
-    fn change_two(&mut self, memo: &mut Memo, f: FormId, g: FormId, at: u32, change: Change) -> Result<(FormId, FormId), EnterFault>
+    fn change_two(
+        &mut self,
+        memo: &mut Memo,
+        f: FormId,
+        g: FormId,
+        at: u32,
+        change: Change,
+    ) -> Result<(FormId, FormId), EnterFault>
         requires has { HasForm self.old f }
         requires has_other { HasForm self.old g }
         requires part { HasChange self.old change }
         requires room { at + depth (form_of self.old f) ≤ 2000 }
         requires room_other { at + depth (form_of self.old g) ≤ 2000 }
         requires knows { Knows self.old change memo.old }
-        ensures made { IfOk result (λ p. IsFormId self.new (changed_form at (change_of self.old change) (form_of self.old f)) p.0) }
-        ensures made_other { IfOk result (λ p. IsFormId self.new (changed_form at (change_of self.old change) (form_of self.old g)) p.1) }
-        ensures deep { IfErr result (IfTooDeep (2000 < max (depth (changed_form at (change_of self.old change) (form_of self.old f))) (depth (changed_form at (change_of self.old change) (form_of self.old g))))) }
+        ensures made { IfOk result (λ p. IsFormId self.new (form_after self.old change at f) p.0) }
+        ensures made_other { IfOk result (λ p. IsFormId self.new (form_after self.old change at g) p.1) }
+        ensures deep { IfErr result (IfTooDeep (2000 < max (depth (form_after self.old change at f)) (depth (form_after self.old change at g)))) }
         ensures kept { Extends self.old self.new }
         ensures knows { OnOk result (Knows self.new change memo.new) }
     {
@@ -143,15 +171,22 @@ impl Store {
 
     // A quantifier's type, and its body under one binder more.
     #[cycle(change_form)]
-    fn change_body(&mut self, memo: &mut Memo, ty: TyId, f: FormId, at: u32, change: Change) -> Result<(TyId, FormId), EnterFault>
+    fn change_body(
+        &mut self,
+        memo: &mut Memo,
+        ty: TyId,
+        f: FormId,
+        at: u32,
+        change: Change,
+    ) -> Result<(TyId, FormId), EnterFault>
         requires has { HasType self.old ty }
         requires has_body { HasForm self.old f }
         requires part { HasChange self.old change }
         requires room { at + 1 + depth (form_of self.old f) ≤ 2000 }
         requires knows { Knows self.old change memo.old }
-        ensures made { IfOk result (λ p. IsTypeId self.new (changed_type at (change_of self.old change) (type_of self.old ty)) p.0) }
-        ensures made_body { IfOk result (λ p. IsFormId self.new (changed_form (at + 1) (change_of self.old change) (form_of self.old f)) p.1) }
-        ensures deep { IfErr result (IfTooDeep (2000 < max (type_depth (changed_type at (change_of self.old change) (type_of self.old ty))) (depth (changed_form (at + 1) (change_of self.old change) (form_of self.old f))))) }
+        ensures made { IfOk result (λ p. IsTypeId self.new (type_after self.old change at ty) p.0) }
+        ensures made_body { IfOk result (λ p. IsFormId self.new (form_after self.old change (at + 1) f) p.1) }
+        ensures deep { IfErr result (IfTooDeep (2000 < max (type_depth (type_after self.old change at ty)) (depth (form_after self.old change (at + 1) f)))) }
         ensures kept { Extends self.old self.new }
         ensures knows { OnOk result (Knows self.new change memo.new) }
     {
@@ -161,13 +196,17 @@ impl Store {
     }
 
     /// The whole formula with the change.
-    pub(crate) fn change_whole(&mut self, form: FormId, change: Change) -> Result<FormId, EnterFault>
+    pub(crate) fn change_whole(
+        &mut self,
+        form: FormId,
+        change: Change,
+    ) -> Result<FormId, EnterFault>
         requires has { HasForm self.old form }
         requires part { HasChange self.old change }
-        ensures made { IfOk result (IsFormId self.new (changed_form 0 (change_of self.old change) (form_of self.old form))) }
-        ensures deep { IfErr result (IfTooDeep (2000 < depth (changed_form 0 (change_of self.old change) (form_of self.old form)))) }
+        ensures made { IfOk result (IsFormId self.new (form_after self.old change 0 form)) }
+        ensures deep { IfErr result (IfTooDeep (2000 < depth (form_after self.old change 0 form))) }
         ensures kept { Extends self.old self.new }
-        ensures bounded { OnOk result (depth (changed_form 0 (change_of self.old change) (form_of self.old form)) ≤ 2000) }
+        ensures bounded { OnOk result (depth (form_after self.old change 0 form) ≤ 2000) }
     {
         let mut memo = Memo::new(self.global());
         let _ = self.form_node(form);

@@ -3,7 +3,7 @@ ghost use Rattle.zm_logic.specs.Measure.{type_depth, types_depth, term_depth, te
 ghost use Rattle.zm_logic.specs.Tree as tree;
 ghost use Rattle.term_store.specs.Node.{TypesBelow, TermsBelow, types_at, terms_at};
 ghost use Rattle.term_store.specs.Trees.{HasType, type_of, HasTerm, term_of, all_trees, Extends};
-ghost use Rattle.term_store.specs.Change.{HasChange, change_of, changed_type, changed_types, changed_term, changed_terms, IsTypeId, IsTermId, AreTypeIds, AreTermIds, Knows, term_put as put};
+ghost use Rattle.term_store.specs.Change.{HasChange, change_of, type_after, types_after, term_after, terms_after, changed_type, changed_types, changed_term, changed_terms, IsTypeId, IsTermId, AreTypeIds, AreTermIds, Knows, term_put as put};
 ghost use Rattle.term_store.specs.Fault.{IfTooDeep};
 
 use crate::change::{Change, closes};
@@ -27,16 +27,25 @@ fn term_put(id: TermId, index: u32, at: u32, change: Change) -> TermId
 impl Store {
     /// The term with the change.
     #[cycle(change_term)]
-    pub(crate) fn change_term(&mut self, memo: &mut Memo, id: TermId, at: u32, change: Change) -> Result<TermId, EnterFault>
+    pub(crate) fn change_term(
+        &mut self,
+        memo: &mut Memo,
+        id: TermId,
+        at: u32,
+        change: Change,
+    ) -> Result<TermId, EnterFault>
         requires has { HasTerm self.old id }
         requires part { HasChange self.old change }
         requires knows { Knows self.old change memo.old }
-        ensures made { IfOk result (IsTermId self.new (changed_term at (change_of self.old change) (term_of self.old id))) }
-        ensures deep { IfErr result (IfTooDeep (2000 < term_depth (changed_term at (change_of self.old change) (term_of self.old id)))) }
+        ensures made { IfOk result (IsTermId self.new (term_after self.old change at id)) }
+        ensures deep { IfErr result (IfTooDeep (2000 < term_depth (term_after self.old change at id))) }
         ensures kept { Extends self.old self.new }
         ensures knows { OnOk result (Knows self.new change memo.new) }
     {
-        let place = Place { tree: id.0, binders: at };
+        let place = Place {
+            tree: id.0,
+            binders: at,
+        };
         if let Some(made) = recall(&memo.terms, place) {
             return Ok(TermId(made));
         }
@@ -46,12 +55,18 @@ impl Store {
     }
 
     #[cycle(change_term)]
-    fn changed_term(&mut self, memo: &mut Memo, id: TermId, at: u32, change: Change) -> Result<TermId, EnterFault>
+    fn changed_term(
+        &mut self,
+        memo: &mut Memo,
+        id: TermId,
+        at: u32,
+        change: Change,
+    ) -> Result<TermId, EnterFault>
         requires has { HasTerm self.old id }
         requires part { HasChange self.old change }
         requires knows { Knows self.old change memo.old }
-        ensures made { IfOk result (IsTermId self.new (changed_term at (change_of self.old change) (term_of self.old id))) }
-        ensures deep { IfErr result (IfTooDeep (2000 < term_depth (changed_term at (change_of self.old change) (term_of self.old id)))) }
+        ensures made { IfOk result (IsTermId self.new (term_after self.old change at id)) }
+        ensures deep { IfErr result (IfTooDeep (2000 < term_depth (term_after self.old change at id))) }
         ensures kept { Extends self.old self.new }
         ensures knows { OnOk result (Knows self.new change memo.new) }
     {
@@ -65,7 +80,14 @@ impl Store {
         self.put_term(TermNode::App(symbol, types, terms))
     }
 
-    fn changed_eps(&mut self, memo: &mut Memo, number: u64, ty: TyId, at: u32, change: Change) -> Result<TermId, EnterFault>
+    fn changed_eps(
+        &mut self,
+        memo: &mut Memo,
+        number: u64,
+        ty: TyId,
+        at: u32,
+        change: Change,
+    ) -> Result<TermId, EnterFault>
         requires has { HasType self.old ty }
         requires part { HasChange self.old change }
         requires knows { Knows self.old change memo.old }
@@ -81,7 +103,14 @@ impl Store {
         self.put_term(TermNode::Eps(number, ty))
     }
 
-    fn changed_meta(&mut self, memo: &mut Memo, number: u64, ty: TyId, at: u32, change: Change) -> Result<TermId, EnterFault>
+    fn changed_meta(
+        &mut self,
+        memo: &mut Memo,
+        number: u64,
+        ty: TyId,
+        at: u32,
+        change: Change,
+    ) -> Result<TermId, EnterFault>
         requires has { HasType self.old ty }
         requires part { HasChange self.old change }
         requires knows { Knows self.old change memo.old }
@@ -96,14 +125,21 @@ impl Store {
 
     /// The arguments of a function or a predicate.
     #[cycle(change_term)]
-    pub(crate) fn change_parts(&mut self, memo: &mut Memo, types: &TyIds, terms: &TermIds, at: u32, change: Change) -> Result<(TyIds, TermIds), EnterFault>
+    pub(crate) fn change_parts(
+        &mut self,
+        memo: &mut Memo,
+        types: &TyIds,
+        terms: &TermIds,
+        at: u32,
+        change: Change,
+    ) -> Result<(TyIds, TermIds), EnterFault>
         requires below { TypesBelow (length self.old.types) types.now }
         requires terms_below { TermsBelow (length self.old.terms) terms.now }
         requires part { HasChange self.old change }
         requires knows { Knows self.old change memo.old }
-        ensures made { IfOk result (λ p. AreTypeIds self.new (changed_types at (change_of self.old change) (types_at (all_trees self.old).types types.now)) p.0) }
-        ensures made_terms { IfOk result (λ p. AreTermIds self.new (changed_terms at (change_of self.old change) (terms_at (all_trees self.old).terms terms.now)) p.1) }
-        ensures deep { IfErr result (IfTooDeep (2000 < max (types_depth (changed_types at (change_of self.old change) (types_at (all_trees self.old).types types.now))) (terms_depth (changed_terms at (change_of self.old change) (terms_at (all_trees self.old).terms terms.now))))) }
+        ensures made { IfOk result (λ p. AreTypeIds self.new (types_after self.old change at types.now) p.0) }
+        ensures made_terms { IfOk result (λ p. AreTermIds self.new (terms_after self.old change at terms.now) p.1) }
+        ensures deep { IfErr result (IfTooDeep (2000 < max (types_depth (types_after self.old change at types.now)) (terms_depth (terms_after self.old change at terms.now)))) }
         ensures kept { Extends self.old self.new }
         ensures knows { OnOk result (Knows self.new change memo.new) }
     {
@@ -113,12 +149,18 @@ impl Store {
     }
 
     #[cycle(change_term)]
-    fn change_terms(&mut self, memo: &mut Memo, ids: &TermIds, at: u32, change: Change) -> Result<TermIds, EnterFault>
+    fn change_terms(
+        &mut self,
+        memo: &mut Memo,
+        ids: &TermIds,
+        at: u32,
+        change: Change,
+    ) -> Result<TermIds, EnterFault>
         requires below { TermsBelow (length self.old.terms) ids.now }
         requires part { HasChange self.old change }
         requires knows { Knows self.old change memo.old }
-        ensures made { IfOk result (AreTermIds self.new (changed_terms at (change_of self.old change) (terms_at (all_trees self.old).terms ids.now))) }
-        ensures deep { IfErr result (IfTooDeep (2000 < terms_depth (changed_terms at (change_of self.old change) (terms_at (all_trees self.old).terms ids.now)))) }
+        ensures made { IfOk result (AreTermIds self.new (terms_after self.old change at ids.now)) }
+        ensures deep { IfErr result (IfTooDeep (2000 < terms_depth (terms_after self.old change at ids.now))) }
         ensures kept { Extends self.old self.new }
         ensures knows { OnOk result (Knows self.new change memo.new) }
     {
@@ -131,16 +173,22 @@ impl Store {
     }
 
     /// The type and the sides of an equality.
-    pub(crate) fn change_sides(&mut self, memo: &mut Memo, sides: (TyId, TermId, TermId), at: u32, change: Change) -> Result<(TyId, TermId, TermId), EnterFault>
+    pub(crate) fn change_sides(
+        &mut self,
+        memo: &mut Memo,
+        sides: (TyId, TermId, TermId),
+        at: u32,
+        change: Change,
+    ) -> Result<(TyId, TermId, TermId), EnterFault>
         requires has { HasType self.old sides.0 }
         requires has_left { HasTerm self.old sides.1 }
         requires has_right { HasTerm self.old sides.2 }
         requires part { HasChange self.old change }
         requires knows { Knows self.old change memo.old }
-        ensures made { IfOk result (λ p. IsTypeId self.new (changed_type at (change_of self.old change) (type_of self.old sides.0)) p.0) }
-        ensures made_left { IfOk result (λ p. IsTermId self.new (changed_term at (change_of self.old change) (term_of self.old sides.1)) p.1) }
-        ensures made_right { IfOk result (λ p. IsTermId self.new (changed_term at (change_of self.old change) (term_of self.old sides.2)) p.2) }
-        ensures deep { IfErr result (IfTooDeep (2000 < max (type_depth (changed_type at (change_of self.old change) (type_of self.old sides.0))) (max (term_depth (changed_term at (change_of self.old change) (term_of self.old sides.1))) (term_depth (changed_term at (change_of self.old change) (term_of self.old sides.2)))))) }
+        ensures made { IfOk result (λ p. IsTypeId self.new (type_after self.old change at sides.0) p.0) }
+        ensures made_left { IfOk result (λ p. IsTermId self.new (term_after self.old change at sides.1) p.1) }
+        ensures made_right { IfOk result (λ p. IsTermId self.new (term_after self.old change at sides.2) p.2) }
+        ensures deep { IfErr result (IfTooDeep (2000 < max (type_depth (type_after self.old change at sides.0)) (max (term_depth (term_after self.old change at sides.1)) (term_depth (term_after self.old change at sides.2))))) }
         ensures kept { Extends self.old self.new }
         ensures knows { OnOk result (Knows self.new change memo.new) }
     {

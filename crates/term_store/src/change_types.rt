@@ -3,7 +3,7 @@ ghost use Rattle.zm_logic.specs.Measure.{type_depth, types_depth};
 ghost use Rattle.zm_logic.specs.Tree as tree;
 ghost use Rattle.term_store.specs.Node.{TypesBelow, types_at};
 ghost use Rattle.term_store.specs.Trees.{HasType, type_of, all_trees, Extends};
-ghost use Rattle.term_store.specs.Change.{HasChange, change_of, changed_type, changed_types, IsTypeId, AreTypeIds, Knows, type_put as put};
+ghost use Rattle.term_store.specs.Change.{HasChange, change_of, type_after, types_after, changed_type, changed_types, IsTypeId, AreTypeIds, Knows, type_put as put};
 ghost use Rattle.term_store.specs.Fault.{IfTooDeep};
 
 use crate::change::{Change, closes};
@@ -27,16 +27,25 @@ fn type_put(id: TyId, index: u32, at: u32, change: Change) -> TyId
 impl Store {
     /// The type with the change.
     #[cycle(change_ty)]
-    pub(crate) fn change_ty(&mut self, memo: &mut Memo, id: TyId, at: u32, change: Change) -> Result<TyId, EnterFault>
+    pub(crate) fn change_ty(
+        &mut self,
+        memo: &mut Memo,
+        id: TyId,
+        at: u32,
+        change: Change,
+    ) -> Result<TyId, EnterFault>
         requires has { HasType self.old id }
         requires part { HasChange self.old change }
         requires knows { Knows self.old change memo.old }
-        ensures made { IfOk result (IsTypeId self.new (changed_type at (change_of self.old change) (type_of self.old id))) }
-        ensures deep { IfErr result (IfTooDeep (2000 < type_depth (changed_type at (change_of self.old change) (type_of self.old id)))) }
+        ensures made { IfOk result (IsTypeId self.new (type_after self.old change at id)) }
+        ensures deep { IfErr result (IfTooDeep (2000 < type_depth (type_after self.old change at id))) }
         ensures kept { Extends self.old self.new }
         ensures knows { OnOk result (Knows self.new change memo.new) }
     {
-        let place = Place { tree: id.0, binders: at };
+        let place = Place {
+            tree: id.0,
+            binders: at,
+        };
         if let Some(made) = recall(&memo.types, place) {
             return Ok(TyId(made));
         }
@@ -46,12 +55,18 @@ impl Store {
     }
 
     #[cycle(change_ty)]
-    fn changed_ty(&mut self, memo: &mut Memo, id: TyId, at: u32, change: Change) -> Result<TyId, EnterFault>
+    fn changed_ty(
+        &mut self,
+        memo: &mut Memo,
+        id: TyId,
+        at: u32,
+        change: Change,
+    ) -> Result<TyId, EnterFault>
         requires has { HasType self.old id }
         requires part { HasChange self.old change }
         requires knows { Knows self.old change memo.old }
-        ensures made { IfOk result (IsTypeId self.new (changed_type at (change_of self.old change) (type_of self.old id))) }
-        ensures deep { IfErr result (IfTooDeep (2000 < type_depth (changed_type at (change_of self.old change) (type_of self.old id)))) }
+        ensures made { IfOk result (IsTypeId self.new (type_after self.old change at id)) }
+        ensures deep { IfErr result (IfTooDeep (2000 < type_depth (type_after self.old change at id))) }
         ensures kept { Extends self.old self.new }
         ensures knows { OnOk result (Knows self.new change memo.new) }
     {
@@ -65,7 +80,13 @@ impl Store {
         self.put_ty(TyNode::Con(symbol, changed))
     }
 
-    fn changed_param(&mut self, id: TyId, number: u64, at: u32, change: Change) -> Result<TyId, EnterFault>
+    fn changed_param(
+        &mut self,
+        id: TyId,
+        number: u64,
+        at: u32,
+        change: Change,
+    ) -> Result<TyId, EnterFault>
         requires has { HasType self.old id }
         requires node { type_of self.old id ≡ tree.Ty.param number }
         ensures made { IfOk result (IsTypeId self.new (changed_type at (change_of self.old change) (tree.Ty.param number))) }
@@ -79,12 +100,18 @@ impl Store {
     }
 
     #[cycle(change_ty)]
-    pub(crate) fn change_tys(&mut self, memo: &mut Memo, ids: &TyIds, at: u32, change: Change) -> Result<TyIds, EnterFault>
+    pub(crate) fn change_tys(
+        &mut self,
+        memo: &mut Memo,
+        ids: &TyIds,
+        at: u32,
+        change: Change,
+    ) -> Result<TyIds, EnterFault>
         requires below { TypesBelow (length self.old.types) ids.now }
         requires part { HasChange self.old change }
         requires knows { Knows self.old change memo.old }
-        ensures made { IfOk result (AreTypeIds self.new (changed_types at (change_of self.old change) (types_at (all_trees self.old).types ids.now))) }
-        ensures deep { IfErr result (IfTooDeep (2000 < types_depth (changed_types at (change_of self.old change) (types_at (all_trees self.old).types ids.now)))) }
+        ensures made { IfOk result (AreTypeIds self.new (types_after self.old change at ids.now)) }
+        ensures deep { IfErr result (IfTooDeep (2000 < types_depth (types_after self.old change at ids.now))) }
         ensures kept { Extends self.old self.new }
         ensures knows { OnOk result (Knows self.new change memo.new) }
     {

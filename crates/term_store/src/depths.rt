@@ -85,7 +85,10 @@ pub(crate) fn term_depth_of(
 {
     match node {
         TermNode::App(_, ids, arguments) => {
-            1 + greater(types_depth(types, ids.as_slice()), terms_depth(terms, arguments.as_slice()))
+            1 + greater(
+                types_depth(types, ids.as_slice()),
+                terms_depth(terms, arguments.as_slice()),
+            )
         }
         TermNode::Eps(_, ty) | TermNode::Meta(_, ty) => 1 + bounded_at(types, ty.0),
         TermNode::Bound(_) => 1,
@@ -109,7 +112,10 @@ pub(crate) fn form_depth_of(
     match node {
         FormNode::True | FormNode::False => 1,
         FormNode::Atom(_, ids, arguments) => {
-            1 + greater(types_depth(types, ids.as_slice()), terms_depth(terms, arguments.as_slice()))
+            1 + greater(
+                types_depth(types, ids.as_slice()),
+                terms_depth(terms, arguments.as_slice()),
+            )
         }
         FormNode::Equal(ty, left, right) => {
             let sides = greater(bounded_at(terms, left.0), bounded_at(terms, right.0));

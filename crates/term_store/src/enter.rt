@@ -88,7 +88,12 @@ impl Store {
     }
 
     #[cycle(enter_within)]
-    fn enter_parts(&mut self, types: &Items<Ty>, terms: &Items<Term>, room: u64) -> Result<(TyIds, TermIds), EnterFault>
+    fn enter_parts(
+        &mut self,
+        types: &Items<Ty>,
+        terms: &Items<Term>,
+        room: u64,
+    ) -> Result<(TyIds, TermIds), EnterFault>
         requires { room ≤ 2000 }
         ensures made { IfOk result (λ p. AreTypeIds self.new (types_tree types.now) p.0) }
         ensures made_terms { IfOk result (λ p. AreTermIds self.new (terms_tree terms.now) p.1) }
@@ -117,7 +122,13 @@ impl Store {
         Ok(all)
     }
 
-    fn enter_sides(&mut self, ty: &Ty, left: &Term, right: &Term, room: u64) -> Result<(TyId, TermId, TermId), EnterFault>
+    fn enter_sides(
+        &mut self,
+        ty: &Ty,
+        left: &Term,
+        right: &Term,
+        room: u64,
+    ) -> Result<(TyId, TermId, TermId), EnterFault>
         requires { room ≤ 2000 }
         ensures made { IfOk result (λ p. IsTypeId self.new (type_tree ty.now) p.0) }
         ensures made_left { IfOk result (λ p. IsTermId self.new (term_tree left.now) p.1) }
@@ -195,7 +206,12 @@ impl Store {
     }
 
     #[cycle(enter_form)]
-    fn enter_two(&mut self, f: &Boxed<Form>, g: &Boxed<Form>, room: u64) -> Result<(FormId, FormId), EnterFault>
+    fn enter_two(
+        &mut self,
+        f: &Boxed<Form>,
+        g: &Boxed<Form>,
+        room: u64,
+    ) -> Result<(FormId, FormId), EnterFault>
         requires { room ≤ 2000 }
         ensures made { IfOk result (λ p. IsFormId self.new (form_tree f.now) p.0) }
         ensures made_other { IfOk result (λ p. IsFormId self.new (form_tree g.now) p.1) }
@@ -209,7 +225,12 @@ impl Store {
     }
 
     #[cycle(enter_form)]
-    fn enter_body(&mut self, ty: &Ty, f: &Boxed<Form>, room: u64) -> Result<(TyId, FormId), EnterFault>
+    fn enter_body(
+        &mut self,
+        ty: &Ty,
+        f: &Boxed<Form>,
+        room: u64,
+    ) -> Result<(TyId, FormId), EnterFault>
         requires { room ≤ 2000 }
         ensures made { IfOk result (λ p. IsTypeId self.new (type_tree ty.now) p.0) }
         ensures made_body { IfOk result (λ p. IsFormId self.new (form_tree f.now) p.1) }

@@ -16,10 +16,9 @@ mod opening;
 mod puts;
 mod reads;
 mod store;
-mod trees;
-
 #[cfg(test)]
 mod tests;
+mod trees;
 
 pub use fault::{EnterFault, MkFault, OpenFault};
 pub use ids::{FormId, FormIds, TermId, TermIds, TyId, TyIds};

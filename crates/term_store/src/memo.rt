@@ -44,7 +44,11 @@ pub(crate) fn recall(made: &IndexMap<Place, usize>, place: Place) -> Option<usiz
 }
 
 /// Notes what was made of the tree at a place.
-pub(crate) fn note(made: &mut IndexMap<Place, usize>, place: Place, tree: usize) -> Result<(), EnterFault>
+pub(crate) fn note(
+    made: &mut IndexMap<Place, usize>,
+    place: Place,
+    tree: usize,
+) -> Result<(), EnterFault>
     ensures noted { OnOk result (Updates same_place made.old made.new place (Some tree)) }
     ensures memory { IsOkUnless result Memory }
 {

@@ -1,8 +1,7 @@
 ghost use Rattle.std.specs.Prelude.{◌≡◌, ◌<◌, ◌≤◌, OnOk, IfOk, IfErr};
 ghost use Rattle.zm_logic.specs.Measure.{depth};
-ghost use Rattle.zm_logic.specs.Opening as opening;
 ghost use Rattle.term_store.specs.Trees.{HasForm, form_of, Extends};
-ghost use Rattle.term_store.specs.Open.{HasPart, part_of};
+ghost use Rattle.term_store.specs.Open.{HasPart, opened, closed};
 ghost use Rattle.term_store.specs.Fault.{IfDeepAt, fault_of};
 
 use crate::change::Change;
@@ -41,10 +40,10 @@ impl Store {
         requires has { HasForm self.old form }
         requires part { HasPart self.old with }
         ensures has { IfOk result (HasForm self.new) }
-        ensures tree { IfOk result (λ id. form_of self.new id ≡ opening.open_at 0 (part_of self.old with) (form_of self.old form)) }
+        ensures tree { IfOk result (λ id. form_of self.new id ≡ opened self.old form with) }
         ensures kept { Extends self.old self.new }
-        ensures bounded { OnOk result (depth (opening.open_at 0 (part_of self.old with) (form_of self.old form)) ≤ 2000) }
-        ensures deep { IfErr result (IfDeepAt (λ at. (at ≡ form) × (2000 < depth (opening.open_at 0 (part_of self.old with) (form_of self.old form))))) }
+        ensures bounded { OnOk result (depth (opened self.old form with) ≤ 2000) }
+        ensures deep { IfErr result (IfDeepAt (λ at. (at ≡ form) × (2000 < depth (opened self.old form with)))) }
     {
         match self.change_whole(form, Change::Opens(with)) {
             Ok(id) => Ok(id),
@@ -58,10 +57,10 @@ impl Store {
     pub fn close(&mut self, form: FormId, number: u64) -> Result<FormId, OpenFault>
         requires { HasForm self.old form }
         ensures has { IfOk result (HasForm self.new) }
-        ensures tree { IfOk result (λ id. form_of self.new id ≡ opening.close (form_of self.old form) number) }
+        ensures tree { IfOk result (λ id. form_of self.new id ≡ closed self.old form number) }
         ensures kept { Extends self.old self.new }
-        ensures bounded { OnOk result (depth (opening.close (form_of self.old form) number) ≤ 2000) }
-        ensures deep { IfErr result (IfDeepAt (λ at. (at ≡ form) × (2000 < depth (opening.close (form_of self.old form) number)))) }
+        ensures bounded { OnOk result (depth (closed self.old form number) ≤ 2000) }
+        ensures deep { IfErr result (IfDeepAt (λ at. (at ≡ form) × (2000 < depth (closed self.old form number)))) }
     {
         match self.change_whole(form, Change::Closes(number)) {
             Ok(id) => Ok(id),

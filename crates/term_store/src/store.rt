@@ -42,7 +42,11 @@ impl Model for Store {
 }
 
 // Adds a node that isn't there.
-fn add<N: Eq + Hash + Drop>(map: &mut IndexMap<N, u64>, node: N, depth: u64) -> Result<(), MkFault<N>>
+fn add<N: Eq + Hash + Drop>(
+    map: &mut IndexMap<N, u64>,
+    node: N,
+    depth: u64,
+) -> Result<(), MkFault<N>>
     requires { get N.eq map.old node ≡ None }
     ensures ok { OnOk result (map.new.entries ≡ map.old.entries ++ (node, depth) ∷ []) }
     ensures err { OnErr result (map.new.entries ≡ map.old.entries) }

@@ -51,7 +51,7 @@ change_two-returns-in_err-g-clause-deep t c =
     let first = depth (changed_form k (change_of s c.args.change) (form_of s c.args.f)) in
     let second = depth (changed_form k (change_of s c.args.change) (form_of s c.args.g)) in
     let deep : IfTooDeep (2000 < max first second) c.in_err-g.field-0.0 =
-        if_deeper (2000 < depth (changed_form k (change_of m c.args.change) (form_of m c.args.g))) _ (λ h. omega (arith, h, same)) c.in_err-g.field-0.0 c.in_err-g.ensures.deep in
+    if_deeper (2000 < depth (changed_form k (change_of m c.args.change) (form_of m c.args.g))) _ (λ h. omega (arith, h, same)) c.in_err-g.field-0.0 c.in_err-g.ensures.deep in
     search rules
 
 pub change_two-returns-in_err-g-clause-kept : goal.change_two-returns-in_err-g-clause-kept
@@ -89,7 +89,7 @@ change_body-returns-in_err-f-clause-deep t c =
     let first = type_depth (changed_type k (change_of s c.args.change) (type_of s c.args.ty)) in
     let second = depth (changed_form (k + 1) (change_of s c.args.change) (form_of s c.args.f)) in
     let deep : IfTooDeep (2000 < max first second) c.in_err-f.field-0.0 =
-        if_deeper (2000 < depth (changed_form (k + 1) (change_of m c.args.change) (form_of m c.args.f))) _ (λ h. omega (arith, h, same)) c.in_err-f.field-0.0 c.in_err-f.ensures.deep in
+    if_deeper (2000 < depth (changed_form (k + 1) (change_of m c.args.change) (form_of m c.args.f))) _ (λ h. omega (arith, h, same)) c.in_err-f.field-0.0 c.in_err-f.ensures.deep in
     search rules
 
 pub change_body-returns-in_err-f-clause-kept : goal.change_body-returns-in_err-f-clause-kept

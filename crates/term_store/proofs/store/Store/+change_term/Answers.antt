@@ -8,8 +8,8 @@ use Rattle.term_store.specs.Trees.{term_of, all_trees}
 use Rattle.term_store.specs.Change.{changed_types, changed_term, changed_terms, change_of, IsTermId, AreTermIds, Knows}
 use Rattle.term_store.specs.Fault.{IfTooDeep}
 use Rattle.term_store.proofs.Loops.{term_below_at}
-use Rattle.term_store.proofs.Kept.{extends_more, still_term, kept_term, kept_terms}
-use Rattle.term_store.proofs.Stays.{on_ok, type_ids_stay, terms_still, term_ids_stay, term_ids_push, if_deeper, term_depth_at_within}
+use Rattle.term_store.proofs.Kept.{extends_more, still_term, still_terms, kept_term, kept_terms}
+use Rattle.term_store.proofs.Stays.{on_ok, type_ids_stay, term_ids_stay, term_ids_push, if_deeper, term_depth_at_within}
 use Rattle.term_store.proofs.Changes.{change_stays, knows_stays, term_goal, terms_goal, terms_noted, changed_terms_more, changed_term_within}
 use Rattle.term_store.proofs.store.Store.+change_term.Goals as goal
 
@@ -57,7 +57,7 @@ change_terms-returns-in_err-changed-clause-deep t c =
     let within = changed_term_within c.args.at (change_of s c.args.change) (all_trees s).terms ids c.loop-id.id-index (record { 0 = 0 }) c.loop-id-test.true in
     let all = ap (λ is. terms_depth (changed_terms c.args.at (change_of s c.args.change) (terms_at (all_trees s).terms is))) c.as_slice-id-items.ensures in
     let deep : IfTooDeep (2000 < terms_depth (changed_terms c.args.at (change_of s c.args.change) (terms_at (all_trees s).terms c.args.ids.now))) c.in_err-changed.field-0.0 =
-        if_deeper (2000 < term_depth (changed_term c.args.at (change_of m c.args.change) (term_of m id))) _ (λ h. omega (arith, h, same, within, all)) c.in_err-changed.field-0.0 c.in_err-changed.ensures.deep in
+    if_deeper (2000 < term_depth (changed_term c.args.at (change_of m c.args.change) (term_of m id))) _ (λ h. omega (arith, h, same, within, all)) c.in_err-changed.field-0.0 c.in_err-changed.ensures.deep in
     search rules
 
 pub change_terms-returns-in_err-push-clause-kept : goal.change_terms-returns-in_err-push-clause-kept
@@ -97,7 +97,7 @@ change_parts-change_terms-requires t c =
     let m = c.change_tys.new.self in
     let kept = c.in_ok-types.ensures.kept in
     let same = ap terms_depth (kept_terms s m kept c.args.terms.now c.requires.terms_below) in
-    (omega (arith, same, c.decreases), (terms_still s m kept c.args.terms.now c.requires.terms_below, (change_stays s m kept c.args.change c.requires.part, c.in_ok-types.ensures.knows)))
+    (omega (arith, same, c.decreases), (still_terms s m kept c.args.terms.now c.requires.terms_below, (change_stays s m kept c.args.change c.requires.part, c.in_ok-types.ensures.knows)))
 
 pub change_parts-returns-in_err-terms-clause-deep : goal.change_parts-returns-in_err-terms-clause-deep
 change_parts-returns-in_err-terms-clause-deep t c =
@@ -108,7 +108,7 @@ change_parts-returns-in_err-terms-clause-deep t c =
     let types = types_depth (changed_types k (change_of s c.args.change) (types_at (all_trees s).types c.args.types.now)) in
     let terms = terms_depth (changed_terms k (change_of s c.args.change) (terms_at (all_trees s).terms c.args.terms.now)) in
     let deep : IfTooDeep (2000 < max types terms) c.in_err-terms.field-0.0 =
-        if_deeper (2000 < terms_depth (changed_terms k (change_of m c.args.change) (terms_at (all_trees m).terms c.args.terms.now))) _ (λ h. omega (arith, h, same)) c.in_err-terms.field-0.0 c.in_err-terms.ensures.deep in
+    if_deeper (2000 < terms_depth (changed_terms k (change_of m c.args.change) (terms_at (all_trees m).terms c.args.terms.now))) _ (λ h. omega (arith, h, same)) c.in_err-terms.field-0.0 c.in_err-terms.ensures.deep in
     search rules
 
 pub change_parts-returns-clause-made : goal.change_parts-returns-clause-made

@@ -57,7 +57,7 @@ change_tys-returns-in_err-changed-clause-deep t c =
     let within = changed_type_within c.args.at (change_of s c.args.change) (all_trees s).types ids c.loop-id.id-index (record { 0 = 0 }) c.loop-id-test.true in
     let all = ap (λ is. types_depth (changed_types c.args.at (change_of s c.args.change) (types_at (all_trees s).types is))) c.as_slice-id-items.ensures in
     let deep : IfTooDeep (2000 < types_depth (changed_types c.args.at (change_of s c.args.change) (types_at (all_trees s).types c.args.ids.now))) c.in_err-changed.field-0.0 =
-        if_deeper (2000 < type_depth (changed_type c.args.at (change_of m c.args.change) (type_of m id))) _ (λ h. omega (arith, h, same, within, all)) c.in_err-changed.field-0.0 c.in_err-changed.ensures.deep in
+    if_deeper (2000 < type_depth (changed_type c.args.at (change_of m c.args.change) (type_of m id))) _ (λ h. omega (arith, h, same, within, all)) c.in_err-changed.field-0.0 c.in_err-changed.ensures.deep in
     search rules
 
 pub change_tys-returns-in_err-push-clause-kept : goal.change_tys-returns-in_err-push-clause-kept

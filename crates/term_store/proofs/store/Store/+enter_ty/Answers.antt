@@ -18,7 +18,7 @@ enter_tys-returns-in_err-id-clause-deep t c =
     let same = ap (λ x. type_depth (type_tree x)) c.ty-item.is in
     let all = ap (λ xs. types_depth (types_tree xs)) c.as_slice-ty-items.ensures in
     let deep : IfTooDeep (c.args.room < types_depth (types_tree c.args.types.now)) c.in_err-id.field-0.0 =
-        if_deeper (c.args.room < type_depth (type_tree c.ty-item.result)) _ (λ h. omega (arith, h, within, same, all)) c.in_err-id.field-0.0 c.in_err-id.ensures.deep in
+    if_deeper (c.args.room < type_depth (type_tree c.ty-item.result)) _ (λ h. omega (arith, h, within, same, all)) c.in_err-id.field-0.0 c.in_err-id.ensures.deep in
     search rules
 
 pub enter_tys-loop-ty-preserved : goal.enter_tys-loop-ty-preserved

@@ -18,7 +18,7 @@ enter_terms-returns-in_err-id-clause-deep t c =
     let same = ap (λ x. term_depth (term_tree x)) c.term-item.is in
     let all = ap (λ xs. terms_depth (terms_tree xs)) c.as_slice-term-items.ensures in
     let deep : IfTooDeep (c.args.room < terms_depth (terms_tree c.args.terms.now)) c.in_err-id.field-0.0 =
-        if_deeper (c.args.room < term_depth (term_tree c.term-item.result)) _ (λ h. omega (arith, h, within, same, all)) c.in_err-id.field-0.0 c.in_err-id.ensures.deep in
+    if_deeper (c.args.room < term_depth (term_tree c.term-item.result)) _ (λ h. omega (arith, h, within, same, all)) c.in_err-id.field-0.0 c.in_err-id.ensures.deep in
     search rules
 
 pub enter_terms-loop-term-preserved : goal.enter_terms-loop-term-preserved

@@ -20,5 +20,5 @@ term_trees-term_tree-requires t c =
 pub term_trees-loop-id-preserved : goal.term_trees-loop-id-preserved
 term_trees-loop-id-preserved t c =
     let more = term_trees_more (all_trees c.args.self.now).terms c.as_slice-id-items.result.now c.loop-id.all c.loop-id.id-index (record { 0 = 0 }) c.in_ok-term_tree.field-0
-      c.loop-id-test.true c.loop-id.invariant c.in_ok-term_tree.ensures in
+    c.loop-id-test.true c.loop-id.invariant c.in_ok-term_tree.ensures in
     ap terms_tree c.in_ok-push.ensures.ok ∙ more

@@ -20,5 +20,5 @@ ty_trees-ty_tree-requires t c =
 pub ty_trees-loop-id-preserved : goal.ty_trees-loop-id-preserved
 ty_trees-loop-id-preserved t c =
     let more = type_trees_more (all_trees c.args.self.now).types c.as_slice-id-items.result.now c.loop-id.all c.loop-id.id-index (record { 0 = 0 }) c.in_ok-ty_tree.field-0
-      c.loop-id-test.true c.loop-id.invariant c.in_ok-ty_tree.ensures in
+    c.loop-id-test.true c.loop-id.invariant c.in_ok-ty_tree.ensures in
     ap types_tree c.in_ok-push.ensures.ok ∙ more

@@ -25,7 +25,7 @@ returns-in_err-left-clause-deep c =
     let left = term_depth (changed_term k (change_of s c.args.change) (term_of s c.args.sides.1)) in
     let right = term_depth (changed_term k (change_of s c.args.change) (term_of s c.args.sides.2)) in
     let deep : IfTooDeep (2000 < max ty (max left right)) c.in_err-left.field-0.0 =
-        if_deeper (2000 < term_depth (changed_term k (change_of m c.args.change) (term_of m c.args.sides.1))) _ (λ h. omega (arith, h, same)) c.in_err-left.field-0.0 c.in_err-left.ensures.deep in
+    if_deeper (2000 < term_depth (changed_term k (change_of m c.args.change) (term_of m c.args.sides.1))) _ (λ h. omega (arith, h, same)) c.in_err-left.field-0.0 c.in_err-left.ensures.deep in
     search rules
 
 pub returns-in_err-left-clause-kept : goal.returns-in_err-left-clause-kept
@@ -53,7 +53,7 @@ returns-in_err-right-clause-deep c =
     let left = term_depth (changed_term k (change_of s c.args.change) (term_of s c.args.sides.1)) in
     let right = term_depth (changed_term k (change_of s c.args.change) (term_of s c.args.sides.2)) in
     let deep : IfTooDeep (2000 < max ty (max left right)) c.in_err-right.field-0.0 =
-        if_deeper (2000 < term_depth (changed_term k (change_of m c.args.change) (term_of m c.args.sides.2))) _ (λ h. omega (arith, h, same)) c.in_err-right.field-0.0 c.in_err-right.ensures.deep in
+    if_deeper (2000 < term_depth (changed_term k (change_of m c.args.change) (term_of m c.args.sides.2))) _ (λ h. omega (arith, h, same)) c.in_err-right.field-0.0 c.in_err-right.ensures.deep in
     search rules
 
 pub returns-clause-made : goal.returns-clause-made

@@ -28,14 +28,14 @@ pub invariant_of-self-2 : goal.invariant_of-self-2
 invariant_of-self-2 c =
     let fits = subst (λ (s : Tables). TypeFits (length s.types) c.args.node) (sym c.self.view_is) c.requires in
     let x = type_added c.self.inside.types.entries (nodes_of c.self.inside.terms.entries) (depths_of c.self.inside.terms.entries) (nodes_of c.self.inside.forms.entries) (depths_of c.self.inside.forms.entries) c.self.invariant c.add.new.map.entries c.args.node c.type_depth_of-depth.result c.in_ok-add.ensures.ok
-      (sym c.get_index_of.ensures.index ∙ c.in_default.is) fits c.type_depth_of-depth.ensures.value c.if-depth-gt-MAX_DEPTH.false in
+    (sym c.get_index_of.ensures.index ∙ c.in_default.is) fits c.type_depth_of-depth.ensures.value c.if-depth-gt-MAX_DEPTH.false in
     x.sound
 
 pub returns-clause-tree : goal.returns-clause-tree
 returns-clause-tree c =
     let fits = subst (λ (s : Tables). TypeFits (length s.types) c.args.node) (sym c.self.view_is) c.requires in
     let x = type_added c.self.inside.types.entries (nodes_of c.self.inside.terms.entries) (depths_of c.self.inside.terms.entries) (nodes_of c.self.inside.forms.entries) (depths_of c.self.inside.forms.entries) c.self.invariant c.add.new.map.entries c.args.node c.type_depth_of-depth.result c.in_ok-add.ensures.ok
-      (sym c.get_index_of.ensures.index ∙ c.in_default.is) fits c.type_depth_of-depth.ensures.value c.if-depth-gt-MAX_DEPTH.false in
+    (sym c.get_index_of.ensures.index ∙ c.in_default.is) fits c.type_depth_of-depth.ensures.value c.if-depth-gt-MAX_DEPTH.false in
     let now : Tables = record { types = nodes_of c.add.new.map.entries; terms = nodes_of c.self.inside.terms.entries; forms = nodes_of c.self.inside.forms.entries } in
     let old : Tables = record { types = nodes_of c.self.inside.types.entries; terms = nodes_of c.self.inside.terms.entries; forms = nodes_of c.self.inside.forms.entries } in
     let P : Tables → Type 0 = λ s. type_of now (record { 0 = c.len-place.result }) ≡ type_node s c.args.node in
@@ -45,7 +45,7 @@ pub returns-clause-kept : goal.returns-clause-kept
 returns-clause-kept c =
     let fits = subst (λ (s : Tables). TypeFits (length s.types) c.args.node) (sym c.self.view_is) c.requires in
     let x = type_added c.self.inside.types.entries (nodes_of c.self.inside.terms.entries) (depths_of c.self.inside.terms.entries) (nodes_of c.self.inside.forms.entries) (depths_of c.self.inside.forms.entries) c.self.invariant c.add.new.map.entries c.args.node c.type_depth_of-depth.result c.in_ok-add.ensures.ok
-      (sym c.get_index_of.ensures.index ∙ c.in_default.is) fits c.type_depth_of-depth.ensures.value c.if-depth-gt-MAX_DEPTH.false in
+    (sym c.get_index_of.ensures.index ∙ c.in_default.is) fits c.type_depth_of-depth.ensures.value c.if-depth-gt-MAX_DEPTH.false in
     let now : Tables = record { types = nodes_of c.add.new.map.entries; terms = nodes_of c.self.inside.terms.entries; forms = nodes_of c.self.inside.forms.entries } in
     let P : Tables → Type 0 = λ s. Extends s now in
     subst P c.self.view_is x.extends
