@@ -1,11 +1,12 @@
 -- The trees of offers over ids.
-use Rattle.std.specs.Prelude.{◌≡◌, ◌≤◌, ℕ, List, [], ◌∷◌, Option, map, All, IfSome}
+use Rattle.std.specs.Prelude.{◌≡◌, ◌≤◌, List, [], ◌∷◌, Option, None, Some, map}
 use Rattle.std.specs.Option.{option_map}
 use Rattle.zm_logic.specs.Tree as tree
 use Rattle.zm_logic.specs.Measure.{type_depth}
 use Rattle.term_store.specs.Trees.{Tables, HasType, HasForm, type_of, form_of}
 use Rattle.term_store.specs.Open.{HasPart, part_of}
 use Rattle.term_store.specs.declared.ids.FormId.{FormId}
+use Rattle.term_store.specs.declared.opening.Opening.{Opening}
 use Rattle.param_store.specs.declared.offer.Act.{Act}
 use Rattle.param_store.specs.declared.offer.RawOffer.{RawOffer}
 use Rattle.param_store.specs.declared.quantified.Quantified.{Quantified}
@@ -32,23 +33,37 @@ raw_of s r = record { act = act_of s r.act; children = lists_of s r.children }
 
 -- the ids are those of the store
 abbrev pub HasForms : Tables → List FormId → Type 0
-HasForms s ids = All (HasForm s) ids
+HasForms s [] = Unit {0}
+HasForms s (i ∷ is) = HasForm s i × HasForms s is
 
 abbrev pub HasLists : Tables → List (List FormId) → Type 0
-HasLists s lists = All (HasForms s) lists
+HasLists s [] = Unit {0}
+HasLists s (ids ∷ more) = HasForms s ids × HasLists s more
+
+abbrev pub HasSecond : Tables → Option FormId → Type 0
+HasSecond s None = Unit {0}
+HasSecond s (Some i) = HasForm s i
+
+abbrev pub HasWith : Tables → Option Opening → Type 0
+HasWith s None = Unit {0}
+HasWith s (Some w) = HasPart s w
 
 pub record HasAct (s : Tables) (a : Act) : Type 0 where
   pub first : HasForm s a.first
-  pub second : IfSome a.second (HasForm s)
-  pub part : IfSome a.with (HasPart s)
+  pub second : HasSecond s a.second
+  pub part : HasWith s a.with
 
 pub record HasRaw (s : Tables) (r : RawOffer) : Type 0 where
   pub act : HasAct s r.act
   pub children : HasLists s r.children
 
+abbrev pub HasRaws : Tables → List RawOffer → Type 0
+HasRaws s [] = Unit {0}
+HasRaws s (r ∷ rs) = HasRaw s r × HasRaws s rs
+
 -- the offers over ids are these
 pub record AreRaws (s : Tables) (offers : List raw.Raw) (rs : List RawOffer) : Type 0 where
-  pub has : All (HasRaw s) rs
+  pub has : HasRaws s rs
   pub offers : map (raw_of s) rs ≡ offers
 
 -- the formulas are these

@@ -1,11 +1,11 @@
-ghost use Rattle.std.specs.Prelude.{◌≡◌, ◌<◌, ◌≤◌, ◌∷◌, [], Some, None, length, slice_get, All, OnOk, OnErr, IfOk, IfErr};
+ghost use Rattle.std.specs.Prelude.{◌≡◌, ◌<◌, ◌≤◌, ◌∷◌, [], Some, None, length, slice_get, OnOk, OnErr, IfOk, IfErr};
 ghost use Rattle.term_store.specs.Trees.{Extends, HasForm, form_of};
 ghost use Rattle.term_store.specs.declared.opening.Redex.TheVariants.{OfForm};
 ghost use Rattle.param_store.specs.Numbers.{numbers_with, with_form, number_in};
 ghost use Rattle.param_store.specs.RawOffers as raw;
 ghost use Rattle.param_store.specs.Depth.{deepest};
 ghost use Rattle.param_store.specs.Fault.{IfDeepAt};
-ghost use Rattle.param_store.specs.View.{AreRaws, HasRaw, HasQuantified, forms_of, quantified_of, raw_of};
+ghost use Rattle.param_store.specs.View.{AreRaws, HasForms, HasRaw, HasQuantified, forms_of, quantified_of, raw_of};
 ghost use Rattle.tableau_rules.specs.Split.{HasSplit, children_of};
 
 use crate::children::children;
@@ -102,12 +102,12 @@ pub fn own_offers(
     form: FormId,
 ) -> Result<RawOffers, OfferFault>
     requires has { HasForm store.old form }
-    requires numbered { All (HasForm store.old) params.old }
+    requires numbered { HasForms store.old params.old }
     ensures offers { IfOk result (AreRaws store.new (raw.own_offers (forms_of store.new params.new) (form_of store.new form))) }
     ensures kept { Extends store.old store.new }
     ensures numbers { OnOk result (params.new ≡ numbers_with (raw.is_quantified (form_of store.old form)) params.old form) }
     ensures refused { OnErr result (params.new ≡ params.old) }
-    ensures numbered { All (HasForm store.new) params.new }
+    ensures numbered { HasForms store.new params.new }
     ensures bounded { OnOk result (deepest (raw.own_offers (forms_of store.old params.old) (form_of store.old form)) ≤ 2000) }
     ensures deep { IfErr result (IfDeepAt (λ at. (at ≡ OfForm form) × (2000 < deepest (raw.own_offers (forms_of store.old params.old) (form_of store.old form))))) }
 {
