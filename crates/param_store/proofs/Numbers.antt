@@ -62,9 +62,11 @@ number_with ids f = by (list_any (same_id f) ids)
     pushed =
         let p = position_or_len_push (same_id f) ids f in
         let s = same_id_self f in
-        elim (eqb_tells (number_in ids f) (length ids))
-        [ inl x ↦ p ∙ ap (λ b. cond b (length ids + cond (same_id f f) 0 1) (number_in ids f)) x.0 ∙ ap (λ b. length ids + cond b 0 1) s ∙ omega (arith, x.1)
-        | inr x ↦ p ∙ ap (λ b. cond b (length ids + cond (same_id f f) 0 1) (number_in ids f)) x.0 ]
+        elim (eqb_tells (number_in ids f) (length ids)) [
+          | inl x ↦ p ∙ ap (λ b. cond b (length ids + cond (same_id f f) 0 1) (number_in ids f)) x.0 ∙ ap (λ b. length ids + cond b 0 1) s ∙ omega (arith, x.1)
+          | inr x ↦ p ∙ ap (λ b. cond b (length ids + cond (same_id f f) 0 1) (number_in ids f)) x.0
+        ]
+
     by : (b : Bool) → number_in (if b then ids else ids ++ f ∷ []) f ≡ number_in ids f
     by true = refl
     by false = pushed
@@ -95,9 +97,10 @@ not_true false h = refl
 
 module _ (s : Tables) (shared : AreShared s) where
   pub same_is : (f g : FormId) → HasForm s f → HasForm s g → same (form_of s g) (form_of s f) ≡ same_id f g
-  same_is f g h k = elim (eqb_tells f.0 g.0)
-      [ inl x ↦ subst (λ i. same (form_of s i) (form_of s f) ≡ true) (id_of f g x.1) (same-self (form_of s f)) ∙ sym x.0
-      | inr x ↦ not_true _ (λ e. x.1 (sym (ap (λ i. i.0) (shared.forms g f k h (same-true _ _ e))))) ∙ sym x.0 ]
+  same_is f g h k = elim (eqb_tells f.0 g.0) [
+    | inl x ↦ subst (λ i. same (form_of s i) (form_of s f) ≡ true) (id_of f g x.1) (same-self (form_of s f)) ∙ sym x.0
+    | inr x ↦ not_true _ (λ e. x.1 (sym (ap (λ i. i.0) (shared.forms g f k h (same-true _ _ e))))) ∙ sym x.0
+  ]
 
   -- so the number of a tree in the table of the trees is that of its id
   pub number_is : (ids : List FormId) (f : FormId) → HasForms s ids → HasForm s f → number_of (forms_of s ids) (form_of s f) ≡ number_in ids f

@@ -13,7 +13,12 @@ use term_store::{FormId, FormNode, MkFault, OpenFault, Opening, Redex, Store};
 
 /// The formula, or its negation. `Deep` names the formula acted on, and comes exactly where the negation would be deeper
 /// than 2,000.
-pub fn signed(store: &mut Store, holds: bool, form: FormId, acted: FormId) -> Result<FormId, OfferFault>
+pub fn signed(
+    store: &mut Store,
+    holds: bool,
+    form: FormId,
+    acted: FormId,
+) -> Result<FormId, OfferFault>
     requires { HasForm store.old form }
     ensures has { IfOk result (HasForm store.new) }
     ensures tree { IfOk result (λ id. form_of store.new id ≡ raw.signed holds (form_of store.old form)) }
@@ -37,7 +42,12 @@ pub fn signed(store: &mut Store, holds: bool, form: FormId, acted: FormId) -> Re
 /// The body of a quantified formula at a term or a type, negated where the formula is the negation of a quantified one.
 /// `Deep` names the formula acted on, and comes exactly where the answer would be deeper than 2,000. After an error more
 /// nodes may stand in the store.
-pub fn at_part(store: &mut Store, quantified: Quantified, with: Opening, acted: FormId) -> Result<FormId, OfferFault>
+pub fn at_part(
+    store: &mut Store,
+    quantified: Quantified,
+    with: Opening,
+    acted: FormId,
+) -> Result<FormId, OfferFault>
     requires has { HasQuantified store.old quantified }
     requires part { HasPart store.old with }
     ensures has { IfOk result (HasForm store.new) }

@@ -54,6 +54,8 @@ impl Params {
         ensures form { result ≡ slice_get self.now number }
         ensures number { IfSome result (λ form. number_in self.now form ≡ number) }
     {
+        // the set tells that its formulas are distinct
+        let _ = self.forms.len();
         self.forms.get_index(number as usize).copied()
     }
 

@@ -3,6 +3,7 @@ ghost use Rattle.std.specs.Option.{option_map};
 ghost use Rattle.zm_logic.specs.Tree as tree;
 ghost use Rattle.term_store.specs.Trees.{HasForm, form_of};
 ghost use Rattle.param_store.specs.RawOffers as raw;
+ghost use Rattle.param_store.specs.declared.quantified.Binder.TheVariants.{OfType, OfTerm};
 ghost use Rattle.param_store.specs.View.{quantified_of, HasQuantified};
 
 use term_store::{FormId, FormNode, Store, TyId};
@@ -36,15 +37,34 @@ pub struct Quantified {
     pub body: FormId,
 }
 
-fn of_kind(kind: QuantifierKind, binder: Binder, holds: bool, body: FormId) -> Option<Quantified>
-    ensures { IfSome result (λ q. (q.kind ≡ kind) × (q.binder ≡ binder) × (q.holds ≡ holds) × (q.body ≡ body)) }
+// A quantified formula whose quantifier binds terms of a type.
+fn over_terms(kind: QuantifierKind, ty: TyId, holds: bool, body: FormId) -> Quantified
+    ensures kind { result.kind ≡ kind }
+    ensures binder { result.binder ≡ OfTerm ty }
+    ensures holds { result.holds ≡ holds }
+    ensures body { result.body ≡ body }
 {
-    Some(Quantified {
+    Quantified {
         kind,
-        binder,
+        binder: Binder::OfTerm(ty),
         holds,
         body,
-    })
+    }
+}
+
+// A quantified formula whose quantifier binds types.
+fn over_types(kind: QuantifierKind, holds: bool, body: FormId) -> Quantified
+    ensures kind { result.kind ≡ kind }
+    ensures binder { result.binder ≡ OfType }
+    ensures holds { result.holds ≡ holds }
+    ensures body { result.body ≡ body }
+{
+    Quantified {
+        kind,
+        binder: Binder::OfType,
+        holds,
+        body,
+    }
 }
 
 // The negation of a formula, as a quantified formula.
@@ -54,9 +74,9 @@ fn as_denied(store: &Store, form: FormId) -> Option<Quantified>
     ensures value { option_map (quantified_of store.now) result ≡ raw.quantified (tree.Form.negation (form_of store.now form)) }
 {
     match store.form_node(form) {
-        FormNode::All(ty, body) => of_kind(QuantifierKind::Delta, Binder::OfTerm(*ty), false, *body),
-        FormNode::Ex(ty, body) => of_kind(QuantifierKind::Gamma, Binder::OfTerm(*ty), false, *body),
-        FormNode::AllType(body) => of_kind(QuantifierKind::Delta, Binder::OfType, false, *body),
+        FormNode::All(ty, body) => Some(over_terms(QuantifierKind::Delta, *ty, false, *body)),
+        FormNode::Ex(ty, body) => Some(over_terms(QuantifierKind::Gamma, *ty, false, *body)),
+        FormNode::AllType(body) => Some(over_types(QuantifierKind::Delta, false, *body)),
         FormNode::True
         | FormNode::False
         | FormNode::Atom(_, _, _)
@@ -77,9 +97,9 @@ pub fn as_quantified(store: &Store, form: FormId) -> Option<Quantified>
     ensures value { option_map (quantified_of store.now) result ≡ raw.quantified (form_of store.now form) }
 {
     match store.form_node(form) {
-        FormNode::All(ty, body) => of_kind(QuantifierKind::Gamma, Binder::OfTerm(*ty), true, *body),
-        FormNode::Ex(ty, body) => of_kind(QuantifierKind::Delta, Binder::OfTerm(*ty), true, *body),
-        FormNode::AllType(body) => of_kind(QuantifierKind::Gamma, Binder::OfType, true, *body),
+        FormNode::All(ty, body) => Some(over_terms(QuantifierKind::Gamma, *ty, true, *body)),
+        FormNode::Ex(ty, body) => Some(over_terms(QuantifierKind::Delta, *ty, true, *body)),
+        FormNode::AllType(body) => Some(over_types(QuantifierKind::Gamma, true, *body)),
         FormNode::Not(denied) => as_denied(store, *denied),
         FormNode::True
         | FormNode::False

@@ -114,7 +114,10 @@ pub fn own_offers(
     match as_split(store, form) {
         Some(split) => split_offers(alloc, store, form, split),
         None => match as_quantified(store, form) {
-            Some(quantified) => opened_offers(alloc, store, params, form, quantified),
+            Some(quantified) => {
+                store.shared();
+                opened_offers(alloc, store, params, form, quantified)
+            }
             None => Ok(Items::new(alloc)),
         },
     }
