@@ -1,5 +1,5 @@
 -- Numbers: places in the table of ids, and in the table of the trees.
-use Rattle.std.proofs.Common.{ℕ, zero, suc, ◌≡◌, ◌+◌, ◌<◌, Bool, true, false, not, cond, if◌then◌else◌, Option, Some, List, [], ◌∷◌, ◌++◌, length, take, map, slice_get, refl, ap, sym, subst, ◌∙◌, inl, inr, arith}
+use Rattle.std.proofs.Common.{ℕ, zero, suc, ◌≡◌, ◌+◌, ◌<◌, Bool, true, false, not, cond, if◌then◌else◌, Option, None, Some, IfSome, List, [], ◌∷◌, ◌++◌, length, take, map, slice_get, refl, ap, sym, subst, ◌∙◌, inl, inr, arith}
 use Rattle.std.specs.List.{list_any, position_or_len, AllByRecursion, IsDistinct}
 use Rattle.std.proofs.lemmas.Bool.{eqb-true, eq-eqb}
 use Rattle.std.proofs.lemmas.Bool.Decides.{eqb_tells}
@@ -53,6 +53,10 @@ number_at (g ∷ ids) (suc n) f h e =
     let s : same_id f g ≡ false = same_id_turned f g (at_place (λ x. same_id g x ≡ false) ids n f (IsDistinct-head same_id g ids h) e) in
     let i : number_in ids f ≡ n = number_at ids n f (IsDistinct-tail same_id g ids h) e in
     position_step (same_id f) g ids ∙ ap (λ b. cond b 0 (1 + number_in ids f)) s ∙ omega (arith, i)
+
+pub number_given : (ids : List FormId) (n : ℕ) (o : Option FormId) → IsDistinct same_id ids → o ≡ slice_get ids n → IfSome o (λ f. number_in ids f ≡ n)
+number_given ids n None h e = tt
+number_given ids n (Some f) h e = number_at ids n f h (sym e)
 
 -- a formula keeps its number when it is put into the table
 pub number_with : (ids : List FormId) (f : FormId) → number_in (with_form ids f) f ≡ number_in ids f

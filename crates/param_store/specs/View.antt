@@ -62,18 +62,18 @@ HasRaws s [] = Unit {0}
 HasRaws s (r ∷ rs) = HasRaw s r × HasRaws s rs
 
 -- the offers over ids are these
-pub record AreRaws (s : Tables) (offers : List raw.Raw) (rs : List RawOffer) : Type 0 where
+pub record AreRaws (s : Tables) (os : List raw.Raw) (rs : List RawOffer) : Type 0 where
   pub has : HasRaws s rs
-  pub offers : map (raw_of s) rs ≡ offers
+  pub offers : map (raw_of s) rs ≡ os
 
 -- the formulas are these
 pub record AreForms (s : Tables) (fs : List tree.Form) (ids : List FormId) : Type 0 where
   pub has : HasForms s ids
   pub forms : forms_of s ids ≡ fs
 
-pub record AreLists (s : Tables) (cs : List (List tree.Form)) (lists : List (List FormId)) : Type 0 where
-  pub has : HasLists s lists
-  pub lists : lists_of s lists ≡ cs
+pub record AreLists (s : Tables) (cs : List (List tree.Form)) (ids : List (List FormId)) : Type 0 where
+  pub has : HasLists s ids
+  pub lists : lists_of s ids ≡ cs
 
 -- a quantified formula
 abbrev pub kind_of : QuantifierKind → raw.QuantifierKind

@@ -43,10 +43,8 @@ impl Params {
         ensures numbers { OnOk result (self.new ≡ with_form self.old form) }
         ensures err { OnErr result (self.new ≡ self.old) }
     {
-        match self.forms.insert_full(form) {
-            Ok((place, _)) => Ok(place as u64),
-            Err(_) => Err(AllocError),
-        }
+        let (place, _) = self.forms.insert_full(form)?;
+        Ok(place as u64)
     }
 
     /// The formula that has the number. It takes no memory.
