@@ -1,2 +1,2 @@
-pub mod Children
-pub mod Own
+pub mod Made
+pub mod Shapes

@@ -1,4 +1,4 @@
-ghost use Rattle.std.specs.Prelude.{◌≡◌, None, IfSome};
+ghost use Rattle.std.specs.Prelude.{◌≡◌, true, false, None, IfSome};
 ghost use Rattle.zm_logic.specs.Tree as tree;
 ghost use Rattle.term_store.specs.Trees.{HasForm, form_of};
 ghost use Rattle.param_store.specs.RawOffers as raw;
