@@ -1,0 +1,13 @@
+pub mod Substitution
+pub mod Equation
+pub mod Binding
+pub mod Unification
+pub mod Part
+pub mod Solution
+pub mod Laws
+pub mod Worked
+pub mod View
+pub mod Weight
+pub mod Lawful
+pub mod Pending
+pub mod Occurs
