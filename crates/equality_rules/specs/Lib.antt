@@ -1,0 +1,4 @@
+pub mod Instances
+pub mod Equality
+pub mod Pairs
+pub mod Typed
