@@ -68,8 +68,8 @@ terms_after s c k is = changed_terms k (change_of s c) (terms_at (all_trees s).t
 abbrev pub form_after : Tables → Change → ℕ → FormId → tree.Form
 form_after s c k i = changed_form k (change_of s c) (form_of s i)
 
-abbrev pub node_after : Tables → Change → ℕ → FormNode → tree.Form
-node_after s c k n = changed_form k (change_of s c) (form_node s n)
+abbrev pub tree_after : Tables → Change → ℕ → tree.Form → tree.Form
+tree_after s c k f = changed_form k (change_of s c) f
 
 -- the number is closed
 abbrev pub is_closed : Change → ℕ → Bool

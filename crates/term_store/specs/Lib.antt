@@ -7,3 +7,4 @@ pub mod Fault
 pub mod Memo
 pub mod Open
 pub mod Change
+pub mod Connective

@@ -15,11 +15,11 @@ use crate::opening::Opening;
 use crate::store::Store;
 
 // The id of what stands for a type's index.
-fn type_put(id: TyId, index: u32, at: u32, change: Change) -> TyId
-    ensures { result ≡ put id index at change }
+fn type_put(id: TyId, index: u32, at: u32, change: &Change) -> TyId
+    ensures { result ≡ put id index at change.now }
 {
     match change {
-        Change::Opens(Opening::OfType(t)) if index == at => t,
+        Change::Opens(Opening::OfType(t)) if index == at => *t,
         Change::Opens(_) | Change::Closes(_) => id,
     }
 }
@@ -32,15 +32,15 @@ impl Store {
         memo: &mut Memo,
         id: TyId,
         at: u32,
-        change: Change,
+        change: &Change,
     ) -> Result<TyId, EnterFault>
         requires has { HasType self.old id }
-        requires part { HasChange self.old change }
-        requires knows { Knows self.old change memo.old }
-        ensures made { IfOk result (IsTypeId self.new (type_after self.old change at id)) }
-        ensures deep { IfErr result (IfTooDeep (2000 < type_depth (type_after self.old change at id))) }
+        requires part { HasChange self.old change.now }
+        requires knows { Knows self.old change.now memo.old }
+        ensures made { IfOk result (IsTypeId self.new (type_after self.old change.now at id)) }
+        ensures deep { IfErr result (IfTooDeep (2000 < type_depth (type_after self.old change.now at id))) }
         ensures kept { Extends self.old self.new }
-        ensures knows { OnOk result (Knows self.new change memo.new) }
+        ensures knows { OnOk result (Knows self.new change.now memo.new) }
     {
         let place = Place {
             tree: id.0,
@@ -60,15 +60,15 @@ impl Store {
         memo: &mut Memo,
         id: TyId,
         at: u32,
-        change: Change,
+        change: &Change,
     ) -> Result<TyId, EnterFault>
         requires has { HasType self.old id }
-        requires part { HasChange self.old change }
-        requires knows { Knows self.old change memo.old }
-        ensures made { IfOk result (IsTypeId self.new (type_after self.old change at id)) }
-        ensures deep { IfErr result (IfTooDeep (2000 < type_depth (type_after self.old change at id))) }
+        requires part { HasChange self.old change.now }
+        requires knows { Knows self.old change.now memo.old }
+        ensures made { IfOk result (IsTypeId self.new (type_after self.old change.now at id)) }
+        ensures deep { IfErr result (IfTooDeep (2000 < type_depth (type_after self.old change.now at id))) }
         ensures kept { Extends self.old self.new }
-        ensures knows { OnOk result (Knows self.new change memo.new) }
+        ensures knows { OnOk result (Knows self.new change.now memo.new) }
     {
         let (symbol, types) = match self.copied_ty(id)? {
             TyNode::Bound(index) => return Ok(type_put(id, index, at, change)),
@@ -85,12 +85,12 @@ impl Store {
         id: TyId,
         number: u64,
         at: u32,
-        change: Change,
+        change: &Change,
     ) -> Result<TyId, EnterFault>
         requires has { HasType self.old id }
         requires node { type_of self.old id ≡ tree.Ty.param number }
-        ensures made { IfOk result (IsTypeId self.new (changed_type at (change_of self.old change) (tree.Ty.param number))) }
-        ensures deep { IfErr result (IfTooDeep (2000 < type_depth (changed_type at (change_of self.old change) (tree.Ty.param number)))) }
+        ensures made { IfOk result (IsTypeId self.new (changed_type at (change_of self.old change.now) (tree.Ty.param number))) }
+        ensures deep { IfErr result (IfTooDeep (2000 < type_depth (changed_type at (change_of self.old change.now) (tree.Ty.param number)))) }
         ensures kept { Extends self.old self.new }
     {
         if closes(change, number) {
@@ -105,15 +105,15 @@ impl Store {
         memo: &mut Memo,
         ids: &TyIds,
         at: u32,
-        change: Change,
+        change: &Change,
     ) -> Result<TyIds, EnterFault>
         requires below { TypesBelow (length self.old.types) ids.now }
-        requires part { HasChange self.old change }
-        requires knows { Knows self.old change memo.old }
-        ensures made { IfOk result (AreTypeIds self.new (types_after self.old change at ids.now)) }
-        ensures deep { IfErr result (IfTooDeep (2000 < types_depth (types_after self.old change at ids.now))) }
+        requires part { HasChange self.old change.now }
+        requires knows { Knows self.old change.now memo.old }
+        ensures made { IfOk result (AreTypeIds self.new (types_after self.old change.now at ids.now)) }
+        ensures deep { IfErr result (IfTooDeep (2000 < types_depth (types_after self.old change.now at ids.now))) }
         ensures kept { Extends self.old self.new }
-        ensures knows { OnOk result (Knows self.new change memo.new) }
+        ensures knows { OnOk result (Knows self.new change.now memo.new) }
     {
         let mut all = TyIds::new(self.global());
         for id in ids.as_slice() {

@@ -1,16 +1,20 @@
-ghost use Rattle.std.specs.Prelude.{◌≡◌, ◌+◌, ◌<◌, ◌≤◌, OnOk, IfOk, IfErr, max};
+ghost use Rattle.std.specs.Prelude.{◌≡◌, ◌+◌, ◌<◌, ◌≤◌, OnOk, IfOk, IfErr, length, max};
 ghost use Rattle.zm_logic.specs.Measure.{type_depth, types_depth, term_depth, terms_depth, depth};
 ghost use Rattle.zm_logic.specs.View.{type_tree, term_tree, form_tree, types_tree, terms_tree};
-ghost use Rattle.term_store.specs.Trees.{HasForm, form_of, HasTerm, term_of, Extends};
-ghost use Rattle.term_store.specs.Change.{IsTypeId, IsTermId, IsFormId, AreTypeIds, AreTermIds, IsFormNode};
+ghost use Rattle.term_store.specs.Node.{TermsBelow, terms_at};
+ghost use Rattle.term_store.specs.Trees.{HasForm, form_of, HasTerm, term_of, all_trees, Extends};
+ghost use Rattle.term_store.specs.Change.{IsTypeId, IsTermId, IsFormId, AreTypeIds, AreTermIds};
+ghost use Rattle.zm_logic.specs.Tree as tree;
+ghost use Rattle.term_store.specs.Connective.{connective_of, quantifier_of};
 ghost use Rattle.term_store.specs.Fault.{IfTooDeep};
 
+use crate::connective::{Connective, Quantifier};
 use crate::fault::EnterFault;
 use crate::ids::{FormId, TermId, TermIds, TyId, TyIds};
 use crate::node::{FormNode, TermNode, TyNode};
 use crate::store::{MAX_DEPTH, Store};
 use sqlite_items::{Boxed, Items};
-use zm_logic::{Form, Term, Ty};
+use zm_logic::{Form, SymId, Term, Ty};
 
 // The room that is left below one constructor.
 fn below(room: u64) -> Result<u64, EnterFault>
@@ -72,22 +76,74 @@ impl Store {
         let left = below(room)?;
         match term {
             Term::Bound(index) => self.put_term(TermNode::Bound(*index)),
-            Term::Eps(number, ty) => {
-                let ty = self.enter_ty(ty, left)?;
-                self.put_term(TermNode::Eps(*number, ty))
-            }
-            Term::Meta(number, ty) => {
-                let ty = self.enter_ty(ty, left)?;
-                self.put_term(TermNode::Meta(*number, ty))
-            }
-            Term::App(symbol, types, terms) => {
-                let (types, terms) = self.enter_parts(types, terms, left)?;
-                self.put_term(TermNode::App(*symbol, types, terms))
-            }
+            Term::Eps(number, ty) => self.enter_eps(*number, ty, left),
+            Term::Meta(number, ty) => self.enter_meta(*number, ty, left),
+            Term::App(symbol, types, terms) => self.enter_app(*symbol, types, terms, left),
         }
     }
 
+    // In each of the following the room is that of the parts.
+    fn enter_eps(&mut self, number: u64, ty: &Ty, room: u64) -> Result<TermId, EnterFault>
+        requires { room < 2000 }
+        ensures made { IfOk result (IsTermId self.new (tree.Term.eps number (type_tree ty.now))) }
+        ensures fits { OnOk result (term_depth (tree.Term.eps number (type_tree ty.now)) ≤ room + 1) }
+        ensures deep { IfErr result (IfTooDeep (room + 1 < term_depth (tree.Term.eps number (type_tree ty.now)))) }
+        ensures kept { Extends self.old self.new }
+    {
+        let ty = self.enter_ty(ty, room)?;
+        self.put_term(TermNode::Eps(number, ty))
+    }
+
+    fn enter_meta(&mut self, number: u64, ty: &Ty, room: u64) -> Result<TermId, EnterFault>
+        requires { room < 2000 }
+        ensures made { IfOk result (IsTermId self.new (tree.Term.meta number (type_tree ty.now))) }
+        ensures fits { OnOk result (term_depth (tree.Term.meta number (type_tree ty.now)) ≤ room + 1) }
+        ensures deep { IfErr result (IfTooDeep (room + 1 < term_depth (tree.Term.meta number (type_tree ty.now)))) }
+        ensures kept { Extends self.old self.new }
+    {
+        let ty = self.enter_ty(ty, room)?;
+        self.put_term(TermNode::Meta(number, ty))
+    }
+
     #[cycle(enter_within)]
+    fn enter_app(
+        &mut self,
+        symbol: SymId,
+        types: &Items<Ty>,
+        terms: &Items<Term>,
+        room: u64,
+    ) -> Result<TermId, EnterFault>
+        requires { room < 2000 }
+        ensures made { IfOk result (IsTermId self.new (tree.Term.app symbol.0 (types_tree types.now) (terms_tree terms.now))) }
+        ensures fits { OnOk result (term_depth (tree.Term.app symbol.0 (types_tree types.now) (terms_tree terms.now)) ≤ room + 1) }
+        ensures deep { IfErr result (IfTooDeep (room + 1 < term_depth (tree.Term.app symbol.0 (types_tree types.now) (terms_tree terms.now)))) }
+        ensures kept { Extends self.old self.new }
+    {
+        let terms = self.enter_terms(terms, room)?;
+        self.enter_over(symbol, types, terms, room)
+    }
+
+    // The function at types, and at terms that are entered already.
+    fn enter_over(
+        &mut self,
+        symbol: SymId,
+        types: &Items<Ty>,
+        terms: TermIds,
+        room: u64,
+    ) -> Result<TermId, EnterFault>
+        requires room { room < 2000 }
+        requires below { TermsBelow (length self.old.terms) terms }
+        requires fits { terms_depth (terms_at (all_trees self.old).terms terms) ≤ room }
+        ensures made { IfOk result (IsTermId self.new (tree.Term.app symbol.0 (types_tree types.now) (terms_at (all_trees self.old).terms terms))) }
+        ensures fits { OnOk result (types_depth (types_tree types.now) ≤ room) }
+        ensures deep { IfErr result (IfTooDeep (room < types_depth (types_tree types.now))) }
+        ensures kept { Extends self.old self.new }
+    {
+        let types = self.enter_tys(types, room)?;
+        self.put_term(TermNode::App(symbol, types, terms))
+    }
+
+    // The arguments of a predicate.
     fn enter_parts(
         &mut self,
         types: &Items<Ty>,
@@ -152,57 +208,115 @@ impl Store {
         ensures kept { Extends self.old self.new }
     {
         let left = below(room)?;
-        let node = self.enter_node(form, left)?;
-        self.put_form(node)
+        match form {
+            Form::True => self.put_form(FormNode::True),
+            Form::False => self.put_form(FormNode::False),
+            Form::Atom(symbol, types, terms) => self.enter_atom(*symbol, types, terms, left),
+            Form::Equal(ty, one, other) => self.enter_equal(ty, one, other, left),
+            Form::Not(f) => self.enter_not(f, left),
+            Form::And(f, g) => self.enter_binary(Connective::And, f, g, left),
+            Form::Or(f, g) => self.enter_binary(Connective::Or, f, g, left),
+            Form::Imp(f, g) => self.enter_binary(Connective::Imp, f, g, left),
+            Form::Iff(f, g) => self.enter_binary(Connective::Iff, f, g, left),
+            Form::All(ty, f) => self.enter_quantified(Quantifier::All, ty, f, left),
+            Form::Ex(ty, f) => self.enter_quantified(Quantifier::Ex, ty, f, left),
+            Form::AllType(f) => self.enter_all_type(f, left),
+        }
     }
 
-    // The formula's node, where the room is that of its parts.
-    #[cycle(enter_form)]
-    fn enter_node(&mut self, form: &Form, room: u64) -> Result<FormNode, EnterFault>
+    // In each of the following the room is that of the parts.
+    fn enter_atom(
+        &mut self,
+        symbol: SymId,
+        types: &Items<Ty>,
+        terms: &Items<Term>,
+        room: u64,
+    ) -> Result<FormId, EnterFault>
         requires { room < 2000 }
-        ensures made { IfOk result (IsFormNode self.new (form_tree form.now)) }
-        ensures fits { OnOk result (depth (form_tree form.now) ≤ room + 1) }
-        ensures deep { IfErr result (IfTooDeep (room + 1 < depth (form_tree form.now))) }
+        ensures made { IfOk result (IsFormId self.new (tree.Form.atom symbol.0 (types_tree types.now) (terms_tree terms.now))) }
+        ensures fits { OnOk result (depth (tree.Form.atom symbol.0 (types_tree types.now) (terms_tree terms.now)) ≤ room + 1) }
+        ensures deep { IfErr result (IfTooDeep (room + 1 < depth (tree.Form.atom symbol.0 (types_tree types.now) (terms_tree terms.now)))) }
         ensures kept { Extends self.old self.new }
     {
-        match form {
-            Form::True => Ok(FormNode::True),
-            Form::False => Ok(FormNode::False),
-            Form::Atom(symbol, types, terms) => {
-                let (types, terms) = self.enter_parts(types, terms, room)?;
-                Ok(FormNode::Atom(*symbol, types, terms))
-            }
-            Form::Equal(ty, left, right) => {
-                let (ty, left, right) = self.enter_sides(ty, left, right, room)?;
-                Ok(FormNode::Equal(ty, left, right))
-            }
-            Form::Not(f) => Ok(FormNode::Not(self.enter_form(f.get(), room)?)),
-            Form::And(f, g) => {
-                let (f, g) = self.enter_two(f, g, room)?;
-                Ok(FormNode::And(f, g))
-            }
-            Form::Or(f, g) => {
-                let (f, g) = self.enter_two(f, g, room)?;
-                Ok(FormNode::Or(f, g))
-            }
-            Form::Imp(f, g) => {
-                let (f, g) = self.enter_two(f, g, room)?;
-                Ok(FormNode::Imp(f, g))
-            }
-            Form::Iff(f, g) => {
-                let (f, g) = self.enter_two(f, g, room)?;
-                Ok(FormNode::Iff(f, g))
-            }
-            Form::All(ty, f) => {
-                let (ty, f) = self.enter_body(ty, f, room)?;
-                Ok(FormNode::All(ty, f))
-            }
-            Form::Ex(ty, f) => {
-                let (ty, f) = self.enter_body(ty, f, room)?;
-                Ok(FormNode::Ex(ty, f))
-            }
-            Form::AllType(f) => Ok(FormNode::AllType(self.enter_form(f.get(), room)?)),
-        }
+        let (types, terms) = self.enter_parts(types, terms, room)?;
+        self.put_form(FormNode::Atom(symbol, types, terms))
+    }
+
+    fn enter_equal(
+        &mut self,
+        ty: &Ty,
+        left: &Term,
+        right: &Term,
+        room: u64,
+    ) -> Result<FormId, EnterFault>
+        requires { room < 2000 }
+        ensures made { IfOk result (IsFormId self.new (tree.Form.equal (type_tree ty.now) (term_tree left.now) (term_tree right.now))) }
+        ensures fits { OnOk result (depth (tree.Form.equal (type_tree ty.now) (term_tree left.now) (term_tree right.now)) ≤ room + 1) }
+        ensures deep { IfErr result (IfTooDeep (room + 1 < depth (tree.Form.equal (type_tree ty.now) (term_tree left.now) (term_tree right.now)))) }
+        ensures kept { Extends self.old self.new }
+    {
+        let (ty, left, right) = self.enter_sides(ty, left, right, room)?;
+        self.put_form(FormNode::Equal(ty, left, right))
+    }
+
+    #[cycle(enter_form)]
+    fn enter_not(&mut self, f: &Boxed<Form>, room: u64) -> Result<FormId, EnterFault>
+        requires { room < 2000 }
+        ensures made { IfOk result (IsFormId self.new (tree.Form.negation (form_tree f.now))) }
+        ensures fits { OnOk result (depth (tree.Form.negation (form_tree f.now)) ≤ room + 1) }
+        ensures deep { IfErr result (IfTooDeep (room + 1 < depth (tree.Form.negation (form_tree f.now)))) }
+        ensures kept { Extends self.old self.new }
+    {
+        let f = self.enter_form(f.get(), room)?;
+        self.put_not(f)
+    }
+
+    #[cycle(enter_form)]
+    fn enter_binary(
+        &mut self,
+        connective: Connective,
+        f: &Boxed<Form>,
+        g: &Boxed<Form>,
+        room: u64,
+    ) -> Result<FormId, EnterFault>
+        requires { room < 2000 }
+        ensures made { IfOk result (IsFormId self.new (tree.Form.binary (connective_of connective) (form_tree f.now) (form_tree g.now))) }
+        ensures fits { OnOk result (depth (tree.Form.binary (connective_of connective) (form_tree f.now) (form_tree g.now)) ≤ room + 1) }
+        ensures deep { IfErr result (IfTooDeep (room + 1 < depth (tree.Form.binary (connective_of connective) (form_tree f.now) (form_tree g.now)))) }
+        ensures kept { Extends self.old self.new }
+    {
+        let (f, g) = self.enter_two(f, g, room)?;
+        self.put_binary(connective, f, g)
+    }
+
+    #[cycle(enter_form)]
+    fn enter_quantified(
+        &mut self,
+        quantifier: Quantifier,
+        ty: &Ty,
+        f: &Boxed<Form>,
+        room: u64,
+    ) -> Result<FormId, EnterFault>
+        requires { room < 2000 }
+        ensures made { IfOk result (IsFormId self.new (tree.Form.quantified (quantifier_of quantifier) (type_tree ty.now) (form_tree f.now))) }
+        ensures fits { OnOk result (depth (tree.Form.quantified (quantifier_of quantifier) (type_tree ty.now) (form_tree f.now)) ≤ room + 1) }
+        ensures deep { IfErr result (IfTooDeep (room + 1 < depth (tree.Form.quantified (quantifier_of quantifier) (type_tree ty.now) (form_tree f.now)))) }
+        ensures kept { Extends self.old self.new }
+    {
+        let (ty, f) = self.enter_body(ty, f, room)?;
+        self.put_quantified(quantifier, ty, f)
+    }
+
+    #[cycle(enter_form)]
+    fn enter_all_type(&mut self, f: &Boxed<Form>, room: u64) -> Result<FormId, EnterFault>
+        requires { room < 2000 }
+        ensures made { IfOk result (IsFormId self.new (tree.Form.for_all_types (form_tree f.now))) }
+        ensures fits { OnOk result (depth (tree.Form.for_all_types (form_tree f.now)) ≤ room + 1) }
+        ensures deep { IfErr result (IfTooDeep (room + 1 < depth (tree.Form.for_all_types (form_tree f.now)))) }
+        ensures kept { Extends self.old self.new }
+    {
+        let f = self.enter_form(f.get(), room)?;
+        self.put_all_type(f)
     }
 
     #[cycle(enter_form)]

@@ -5,6 +5,7 @@
 mod change;
 mod change_terms;
 mod change_types;
+mod connective;
 mod copies;
 mod depths;
 mod enter;

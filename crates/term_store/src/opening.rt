@@ -45,7 +45,7 @@ impl Store {
         ensures bounded { OnOk result (depth (opened self.old form with) ≤ 2000) }
         ensures deep { IfErr result (IfDeepAt (λ at. (at ≡ form) × (2000 < depth (opened self.old form with)))) }
     {
-        match self.change_whole(form, Change::Opens(with)) {
+        match self.change_whole(form, &Change::Opens(with)) {
             Ok(id) => Ok(id),
             Err(fault) => Err(fault_at(form, fault)),
         }
@@ -62,7 +62,7 @@ impl Store {
         ensures bounded { OnOk result (depth (closed self.old form number) ≤ 2000) }
         ensures deep { IfErr result (IfDeepAt (λ at. (at ≡ form) × (2000 < depth (closed self.old form number)))) }
     {
-        match self.change_whole(form, Change::Closes(number)) {
+        match self.change_whole(form, &Change::Closes(number)) {
             Ok(id) => Ok(id),
             Err(fault) => Err(fault_at(form, fault)),
         }

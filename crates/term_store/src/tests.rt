@@ -3,7 +3,10 @@ ghost use Rattle.term_store.specs.declared.node.TermNode.TheVariants.{App};
 ghost use Rattle.term_store.specs.Open.{HasPart};
 ghost use Rattle.term_store.specs.Trees.{HasType, HasTerm, HasForm, Extends};
 
-use crate::{EnterFault, FormId, FormNode, MkFault, OpenFault, Opening, Store, TermId, TermIds, TermNode, TyId, TyIds, TyNode};
+use crate::{
+    EnterFault, FormId, FormNode, MkFault, OpenFault, Opening, Store, TermId, TermIds, TermNode,
+    TyId, TyIds, TyNode,
+};
 use sqlite_items::{Boxed, Items};
 use std::alloc::{AllocError, Global};
 use std::test::Fail;
@@ -159,7 +162,12 @@ fn doubled_often(store: &mut Store, form: &Form, times: u32) -> Result<FormId, A
 }
 
 // the formula, doubled so many times and opened
-fn opened_doubled(store: &mut Store, form: &Form, times: u32, with: Opening) -> Result<FormId, AllocError>
+fn opened_doubled(
+    store: &mut Store,
+    form: &Form,
+    times: u32,
+    with: Opening,
+) -> Result<FormId, AllocError>
     requires { HasPart store.old with }
 {
     let id = doubled_often(store, form, times)?;
@@ -301,7 +309,11 @@ fn closing_types(rt: HostRuntime) -> Result<(), Fail> {
     assert_eq!(rt; made, entered(&mut store, &body)?);
     let made = closed(&mut store, &carried(alloc, Ty::Param(7))?, 7)?;
     let body = carried(alloc, Ty::Bound(0))?;
-    assert_eq!(rt; made, entered(&mut store, &body)?, "a metavariable stays, its type is closed");
+    assert_eq!(rt;
+        made,
+        entered(&mut store, &body)?,
+        "a metavariable stays, its type is closed"
+    );
     Ok(())
 }
 
@@ -339,8 +351,14 @@ fn too_deep(store: &mut Store, form: &Form) -> bool {
 fn depth_of_formulas(rt: HostRuntime) -> Result<(), Fail> {
     let alloc = rt.alloc();
     let mut store = Store::new(alloc);
-    assert!(rt; !too_deep(&mut store, &negated(alloc, constant(alloc), 1998)?), "depth 2000");
-    assert!(rt; too_deep(&mut store, &negated(alloc, constant(alloc), 1999)?), "depth 2001");
+    assert!(rt;
+        !too_deep(&mut store, &negated(alloc, constant(alloc), 1998)?),
+        "depth 2000"
+    );
+    assert!(rt;
+        too_deep(&mut store, &negated(alloc, constant(alloc), 1999)?),
+        "depth 2001"
+    );
     Ok(())
 }
 
@@ -363,7 +381,10 @@ fn opening_past_the_depth(rt: HostRuntime) -> Result<(), Fail> {
     let a = entered_term(&mut store, &constant(alloc))?;
     let top = tower(alloc, &mut store, a, 999)?;
     let form = negated(alloc, Term::Bound(0), 1000)?;
-    assert!(rt; is_named(&mut store, &form, Opening::OfTerm(top))?, "depth 2001");
+    assert!(rt;
+        is_named(&mut store, &form, Opening::OfTerm(top))?,
+        "depth 2001"
+    );
     Ok(())
 }
 
@@ -407,5 +428,52 @@ fn trees_come_back(rt: HostRuntime) -> Result<(), Fail> {
     assert!(rt; again(&mut store, &types)?.same(&types));
     let parameter = carried(alloc, list(alloc, Ty::Bound(0))?)?;
     assert!(rt; again(&mut store, &parameter)?.same(&parameter));
+    Ok(())
+}
+
+// f(..f(u)..), f standing so many times
+fn nested(alloc: Global, u: Term, times: u32) -> Result<Term, AllocError> {
+    let mut all = u;
+    for _step in 0..times {
+        all = applied(alloc, all)?;
+    }
+    Ok(all)
+}
+
+#[test]
+fn terms_at_the_depth(rt: HostRuntime) -> Result<(), Fail> {
+    let alloc = rt.alloc();
+    let mut store = Store::new(alloc);
+    let with = entered_term(&mut store, &constant(alloc))?;
+    let inner = nested(alloc, Term::Bound(0), 1998)?;
+    let body = atom(alloc, individual(alloc), inner)?;
+    let made = opened(&mut store, &body, Opening::OfTerm(with))?;
+    let inner = nested(alloc, constant(alloc), 1998)?;
+    let instance = atom(alloc, individual(alloc), inner)?;
+    assert_eq!(rt; made, entered(&mut store, &instance)?);
+    assert!(rt; again(&mut store, &instance)?.same(&instance));
+    Ok(())
+}
+
+// list(..list(t)..), list standing so many times
+fn listed(alloc: Global, t: Ty, times: u32) -> Result<Ty, AllocError> {
+    let mut all = t;
+    for _step in 0..times {
+        all = list(alloc, all)?;
+    }
+    Ok(all)
+}
+
+#[test]
+fn types_at_the_depth(rt: HostRuntime) -> Result<(), Fail> {
+    let alloc = rt.alloc();
+    let mut store = Store::new(alloc);
+    let with = made_individual(alloc, &mut store)?;
+    let outer = listed(alloc, Ty::Bound(0), 1998)?;
+    let body = atom(alloc, outer, constant(alloc))?;
+    let made = opened(&mut store, &body, Opening::OfType(with))?;
+    let outer = listed(alloc, individual(alloc), 1998)?;
+    let instance = atom(alloc, outer, constant(alloc))?;
+    assert_eq!(rt; made, entered(&mut store, &instance)?);
     Ok(())
 }

@@ -17,22 +17,43 @@ change_form-returns-clause-knows t c =
     let s = c.args.self.now in
     let now = c.changed_form.new.self in
     let made = c.in_ok-made.ensures in
-    let same = form_goal s now made.kept c.args.change c.requires.part c.args.at c.args.id c.requires.has in
+    let same = form_goal s now made.kept c.args.change.now c.requires.part c.args.at c.args.id c.requires.has in
     let here = subst (λ x. IsFormId now x c.in_ok-made.made) (sym same) made.made in
     let has = still_form s now made.kept c.args.id c.requires.has in
     let map = c.changed_form.new.memo in
     record {
       types = made.knows.types;
       terms = made.knows.terms;
-      forms = forms_noted map.forms c.note.new.made _ c.in_ok-made.made.0 c.in_ok-note.ensures.noted now c.args.change made.knows.forms (has, here);
+      forms = forms_noted map.forms c.note.new.made _ c.in_ok-made.made.0 c.in_ok-note.ensures.noted now c.args.change.now made.knows.forms (has, here);
     }
 
-pub changed_form-returns-clause-knows : goal.changed_form-returns-clause-knows
-changed_form-returns-clause-knows t c =
-    let changed = c.in_ok-changed.ensures in
-    let part = change_stays c.args.self.now c.change_form_node.new.self changed.kept c.args.change c.requires.part in
-    let knows = knows_stays c.change_form_node.new.self c.put_form.new.self c.put_form.ensures.kept c.args.change part c.change_form_node.new.memo changed.knows in
-    on_ok knows c.put_form.result
+pub change_not-returns-clause-knows : goal.change_not-returns-clause-knows
+change_not-returns-clause-knows t c =
+    let changed = c.in_ok-f.ensures in
+    let part = change_stays c.args.self.now c.change_form.new.self changed.kept c.args.change.now c.requires.part in
+    let knows = knows_stays c.change_form.new.self c.put_not.new.self c.put_not.ensures.kept c.args.change.now part c.change_form.new.memo changed.knows in
+    on_ok knows c.put_not.result
+
+pub change_binary-returns-clause-knows : goal.change_binary-returns-clause-knows
+change_binary-returns-clause-knows t c =
+    let changed = c.in_ok-f.ensures in
+    let part = change_stays c.args.self.now c.change_two.new.self changed.kept c.args.change.now c.requires.part in
+    let knows = knows_stays c.change_two.new.self c.put_binary.new.self c.put_binary.ensures.kept c.args.change.now part c.change_two.new.memo changed.knows in
+    on_ok knows c.put_binary.result
+
+pub change_quantified-returns-clause-knows : goal.change_quantified-returns-clause-knows
+change_quantified-returns-clause-knows t c =
+    let changed = c.in_ok-ty.ensures in
+    let part = change_stays c.args.self.now c.change_body.new.self changed.kept c.args.change.now c.requires.part in
+    let knows = knows_stays c.change_body.new.self c.put_quantified.new.self c.put_quantified.ensures.kept c.args.change.now part c.change_body.new.memo changed.knows in
+    on_ok knows c.put_quantified.result
+
+pub change_all_type-returns-clause-knows : goal.change_all_type-returns-clause-knows
+change_all_type-returns-clause-knows t c =
+    let changed = c.in_ok-f.ensures in
+    let part = change_stays c.args.self.now c.change_form.new.self changed.kept c.args.change.now c.requires.part in
+    let knows = knows_stays c.change_form.new.self c.put_all_type.new.self c.put_all_type.ensures.kept c.args.change.now part c.change_form.new.memo changed.knows in
+    on_ok knows c.put_all_type.result
 
 pub change_two-change_form-requires-2 : goal.change_two-change_form-requires-2
 change_two-change_form-requires-2 t c =
@@ -40,18 +61,18 @@ change_two-change_form-requires-2 t c =
     let m = c.change_form.new.self in
     let kept = c.in_ok-f.ensures.kept in
     let same = ap depth (kept_form s m kept c.args.g c.requires.has_other) in
-    (omega (arith, same, c.decreases), (still_form s m kept c.args.g c.requires.has_other, (change_stays s m kept c.args.change c.requires.part, (omega (arith, same, c.requires.room_other), c.in_ok-f.ensures.knows))))
+    (omega (arith, same, c.decreases), (still_form s m kept c.args.g c.requires.has_other, (change_stays s m kept c.args.change.now c.requires.part, (omega (arith, same, c.requires.room_other), c.in_ok-f.ensures.knows))))
 
 pub change_two-returns-in_err-g-clause-deep : goal.change_two-returns-in_err-g-clause-deep
 change_two-returns-in_err-g-clause-deep t c =
     let s = c.args.self.now in
     let m = c.change_form.new.self in
     let k = c.args.at in
-    let same = ap depth (form_goal s m c.in_ok-f.ensures.kept c.args.change c.requires.part k c.args.g c.requires.has_other) in
-    let first = depth (changed_form k (change_of s c.args.change) (form_of s c.args.f)) in
-    let second = depth (changed_form k (change_of s c.args.change) (form_of s c.args.g)) in
+    let same = ap depth (form_goal s m c.in_ok-f.ensures.kept c.args.change.now c.requires.part k c.args.g c.requires.has_other) in
+    let first = depth (changed_form k (change_of s c.args.change.now) (form_of s c.args.f)) in
+    let second = depth (changed_form k (change_of s c.args.change.now) (form_of s c.args.g)) in
     let deep : IfTooDeep (2000 < max first second) c.in_err-g.field-0.0 =
-    if_deeper (2000 < depth (changed_form k (change_of m c.args.change) (form_of m c.args.g))) _ (λ h. omega (arith, h, same)) c.in_err-g.field-0.0 c.in_err-g.ensures.deep in
+    if_deeper (2000 < depth (changed_form k (change_of m c.args.change.now) (form_of m c.args.g))) _ (λ h. omega (arith, h, same)) c.in_err-g.field-0.0 c.in_err-g.ensures.deep in
     search rules
 
 pub change_two-returns-in_err-g-clause-kept : goal.change_two-returns-in_err-g-clause-kept
@@ -60,12 +81,12 @@ change_two-returns-in_err-g-clause-kept t c =
 
 pub change_two-returns-clause-made : goal.change_two-returns-clause-made
 change_two-returns-clause-made t c =
-    let goal = changed_form c.args.at (change_of c.args.self.now c.args.change) (form_of c.args.self.now c.args.f) in
+    let goal = changed_form c.args.at (change_of c.args.self.now c.args.change.now) (form_of c.args.self.now c.args.f) in
     form_id_stays c.change_form.new.self c.change_form-2.new.self c.in_ok-g.ensures.kept goal c.in_ok-f.f c.in_ok-f.ensures.made
 
 pub change_two-returns-clause-made_other : goal.change_two-returns-clause-made_other
 change_two-returns-clause-made_other t c =
-    let same = form_goal c.args.self.now c.change_form.new.self c.in_ok-f.ensures.kept c.args.change c.requires.part c.args.at c.args.g c.requires.has_other in
+    let same = form_goal c.args.self.now c.change_form.new.self c.in_ok-f.ensures.kept c.args.change.now c.requires.part c.args.at c.args.g c.requires.has_other in
     subst (λ x. IsFormId c.change_form-2.new.self x c.in_ok-g.g) same c.in_ok-g.ensures.made
 
 pub change_two-returns-clause-kept : goal.change_two-returns-clause-kept
@@ -78,18 +99,18 @@ change_body-change_form-requires t c =
     let m = c.change_ty.new.self in
     let kept = c.in_ok-ty.ensures.kept in
     let same = ap depth (kept_form s m kept c.args.f c.requires.has_body) in
-    (omega (arith, same, c.decreases), (still_form s m kept c.args.f c.requires.has_body, (change_stays s m kept c.args.change c.requires.part, (omega (arith, same, c.requires.room), c.in_ok-ty.ensures.knows))))
+    (omega (arith, same, c.decreases), (still_form s m kept c.args.f c.requires.has_body, (change_stays s m kept c.args.change.now c.requires.part, (omega (arith, same, c.requires.room), c.in_ok-ty.ensures.knows))))
 
 pub change_body-returns-in_err-f-clause-deep : goal.change_body-returns-in_err-f-clause-deep
 change_body-returns-in_err-f-clause-deep t c =
     let s = c.args.self.now in
     let m = c.change_ty.new.self in
     let k = c.args.at in
-    let same = ap depth (form_goal s m c.in_ok-ty.ensures.kept c.args.change c.requires.part (k + 1) c.args.f c.requires.has_body) in
-    let first = type_depth (changed_type k (change_of s c.args.change) (type_of s c.args.ty)) in
-    let second = depth (changed_form (k + 1) (change_of s c.args.change) (form_of s c.args.f)) in
+    let same = ap depth (form_goal s m c.in_ok-ty.ensures.kept c.args.change.now c.requires.part (k + 1) c.args.f c.requires.has_body) in
+    let first = type_depth (changed_type k (change_of s c.args.change.now) (type_of s c.args.ty)) in
+    let second = depth (changed_form (k + 1) (change_of s c.args.change.now) (form_of s c.args.f)) in
     let deep : IfTooDeep (2000 < max first second) c.in_err-f.field-0.0 =
-    if_deeper (2000 < depth (changed_form (k + 1) (change_of m c.args.change) (form_of m c.args.f))) _ (λ h. omega (arith, h, same)) c.in_err-f.field-0.0 c.in_err-f.ensures.deep in
+    if_deeper (2000 < depth (changed_form (k + 1) (change_of m c.args.change.now) (form_of m c.args.f))) _ (λ h. omega (arith, h, same)) c.in_err-f.field-0.0 c.in_err-f.ensures.deep in
     search rules
 
 pub change_body-returns-in_err-f-clause-kept : goal.change_body-returns-in_err-f-clause-kept
@@ -98,12 +119,12 @@ change_body-returns-in_err-f-clause-kept t c =
 
 pub change_body-returns-clause-made : goal.change_body-returns-clause-made
 change_body-returns-clause-made t c =
-    let goal = changed_type c.args.at (change_of c.args.self.now c.args.change) (type_of c.args.self.now c.args.ty) in
+    let goal = changed_type c.args.at (change_of c.args.self.now c.args.change.now) (type_of c.args.self.now c.args.ty) in
     type_id_stays c.change_ty.new.self c.change_form.new.self c.in_ok-f.ensures.kept goal c.in_ok-ty.ty c.in_ok-ty.ensures.made
 
 pub change_body-returns-clause-made_body : goal.change_body-returns-clause-made_body
 change_body-returns-clause-made_body t c =
-    let same = form_goal c.args.self.now c.change_ty.new.self c.in_ok-ty.ensures.kept c.args.change c.requires.part (c.args.at + 1) c.args.f c.requires.has_body in
+    let same = form_goal c.args.self.now c.change_ty.new.self c.in_ok-ty.ensures.kept c.args.change.now c.requires.part (c.args.at + 1) c.args.f c.requires.has_body in
     subst (λ x. IsFormId c.change_form.new.self x c.in_ok-f.f) same c.in_ok-f.ensures.made
 
 pub change_body-returns-clause-kept : goal.change_body-returns-clause-kept

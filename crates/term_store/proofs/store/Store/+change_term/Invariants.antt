@@ -6,16 +6,16 @@ use Rattle.term_store.specs.Change.{change_of, changed_terms, AreTermIds, Knows}
 use Rattle.term_store.proofs.store.Store.+change_term.Given as goal
 
 abbrev pub decreases-change_term : goal.decreases-change_term
-decreases-change_term l = 4 * term_depth (term_of l.self.now l.id) + 3
+decreases-change_term l = 5 * term_depth (term_of l.self.now l.id) + 4
 
 abbrev pub decreases-changed_term : goal.decreases-changed_term
-decreases-changed_term l = 4 * term_depth (term_of l.self.now l.id) + 2
+decreases-changed_term l = 5 * term_depth (term_of l.self.now l.id) + 3
 
-abbrev pub decreases-change_parts : goal.decreases-change_parts
-decreases-change_parts l = 4 * terms_depth (terms_at (all_trees l.self.now).terms l.terms.now) + 5
+abbrev pub decreases-changed_app : goal.decreases-changed_app
+decreases-changed_app l = 5 * terms_depth (terms_at (all_trees l.self.now).terms l.terms.now) + 7
 
 abbrev pub decreases-change_terms : goal.decreases-change_terms
-decreases-change_terms l = 4 * terms_depth (terms_at (all_trees l.self.now).terms l.ids.now) + 4
+decreases-change_terms l = 5 * terms_depth (terms_at (all_trees l.self.now).terms l.ids.now) + 6
 
 abbrev pub invariant-change_terms-loop-id : goal.invariant-change_terms-loop-id
 invariant-change_terms-loop-id l = record {

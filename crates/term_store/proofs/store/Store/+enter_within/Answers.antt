@@ -2,13 +2,13 @@
 use Rattle.std.proofs.Common.{ℕ, ◌≡◌, ◌+◌, ◌<◌, ◌≤◌, List, [], ◌∷◌, ◌++◌, take, ap, sym, subst, ◌∙◌, arith, rules}
 use Rattle.zm_logic.specs.Tree as tree
 use Rattle.zm_logic.specs.Measure.{term_depth, terms_depth}
-use Rattle.zm_logic.specs.View.{term_tree, terms_tree, types_tree}
+use Rattle.zm_logic.specs.View.{term_tree, terms_tree}
 use Rattle.zm_logic.proofs.Lists.{with_term, terms_depth_more}
 use Rattle.term_store.specs.declared.ids.TermId.{TermId}
 use Rattle.term_store.specs.Change.{AreTermIds}
 use Rattle.term_store.specs.Fault.{IfTooDeep}
 use Rattle.term_store.proofs.Kept.{extends_more}
-use Rattle.term_store.proofs.Stays.{type_ids_stay, term_ids_stay, term_ids_push, terms_tree_more, term_depth_within, if_deeper}
+use Rattle.term_store.proofs.Stays.{term_ids_stay, term_ids_push, terms_tree_more, term_depth_within, if_deeper}
 use Rattle.term_store.proofs.store.Store.+enter_within.Goals as goal
 
 pub enter_terms-returns-in_err-id-clause-deep : goal.enter_terms-returns-in_err-id-clause-deep
@@ -42,7 +42,3 @@ enter_terms-loop-term-preserved t c =
       fits = omega (arith, depths, same, before.fits, made.fits);
       kept = extends_more c.args.self.now c.loop-term.self new before.kept made.kept;
     }
-
-pub enter_parts-returns-clause-made : goal.enter_parts-returns-clause-made
-enter_parts-returns-clause-made t c =
-    type_ids_stay c.enter_tys.new.self c.enter_terms.new.self c.in_ok-terms.ensures.kept (types_tree c.args.types.now) c.in_ok-types.types c.in_ok-types.ensures.made

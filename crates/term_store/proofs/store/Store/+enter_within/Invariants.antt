@@ -8,8 +8,8 @@ use Rattle.term_store.proofs.store.Store.+enter_within.Given as goal
 abbrev pub decreases-enter_within : goal.decreases-enter_within
 decreases-enter_within l = 3 * l.room
 
-abbrev pub decreases-enter_parts : goal.decreases-enter_parts
-decreases-enter_parts l = 3 * l.room + 2
+abbrev pub decreases-enter_app : goal.decreases-enter_app
+decreases-enter_app l = 3 * l.room + 2
 
 abbrev pub decreases-enter_terms : goal.decreases-enter_terms
 decreases-enter_terms l = 3 * l.room + 1
