@@ -1,5 +1,5 @@
 -- The ids of trees: they stay, and lists of them grow.
-use Rattle.std.proofs.Common.{ℕ, zero, suc, ◌≡◌, ◌+◌, ◌<◌, ◌≤◌, List, [], ◌∷◌, ◌++◌, length, get_or, take, refl, ap, sym, subst, ◌∙◌, Result, Ok, Err, OnOk, arith}
+use Rattle.std.proofs.Common.{ℕ, zero, suc, ◌≡◌, ◌+◌, ◌<◌, ◌≤◌, List, [], ◌∷◌, ◌++◌, length, get_or, take, refl, ap, sym, subst, ◌∙◌, Result, Ok, Err, OnOk, IfErr, arith}
 use Rattle.std.proofs.lemmas.List.{take_more}
 use Rattle.indexmap.specs.IndexMap.{get}
 use Rattle.zm_logic.specs.Tree as tree
@@ -109,3 +109,7 @@ type_trees_more T is ts j d t l h e = rw (take_more is j d l, types_tree_push ts
 pub term_trees_more : (U : List tree.Term) (is : List TermId) (us : List Term) (j : ℕ) (d : TermId) (u : Term) → j < length is
     → terms_tree us ≡ terms_at U (take j is) → term_tree u ≡ term_at U (get_or is j d) → terms_tree (us ++ u ∷ []) ≡ terms_at U (take (j + 1) is)
 term_trees_more U is us j d u l h e = rw (take_more is j d l, terms_tree_push us u, terms_at_push U (take j is) (get_or is j d), h, e)
+
+pub err_deeper : {A : Type 0} (P Q : Type 0) → (P → Q) → (answer : Result A EnterFault) → IfErr answer (IfTooDeep P) → IfErr answer (IfTooDeep Q)
+err_deeper P Q to (Ok x) h = tt
+err_deeper P Q to (Err e) h = if_deeper P Q to e h

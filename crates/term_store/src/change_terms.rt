@@ -1,4 +1,4 @@
-ghost use Rattle.std.specs.Prelude.{◌≡◌, ◌<◌, max, OnOk, IfOk, IfErr, length};
+ghost use Rattle.std.specs.Prelude.{◌≡◌, ◌+◌, ◌<◌, max, OnOk, IfOk, IfErr, length};
 ghost use Rattle.zm_logic.specs.Measure.{type_depth, types_depth, term_depth, terms_depth};
 ghost use Rattle.zm_logic.specs.Tree as tree;
 ghost use Rattle.term_store.specs.Node.{TypesBelow, TermsBelow, types_at, terms_at};

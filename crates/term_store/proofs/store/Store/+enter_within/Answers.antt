@@ -1,11 +1,11 @@
 -- The ids so far stay while one more term is entered.
-use Rattle.std.proofs.Common.{ℕ, ◌≡◌, ◌+◌, ◌<◌, ◌≤◌, List, [], ◌∷◌, ◌++◌, take, ap, sym, subst, ◌∙◌, arith, rules}
+use Rattle.std.proofs.Common.{ℕ, ◌≡◌, ◌+◌, ◌<◌, ◌≤◌, List, [], ◌∷◌, ◌++◌, take, ap, sym, subst, ◌∙◌, arith, rules, IfOk}
 use Rattle.zm_logic.specs.Tree as tree
 use Rattle.zm_logic.specs.Measure.{term_depth, terms_depth}
-use Rattle.zm_logic.specs.View.{term_tree, terms_tree}
+use Rattle.zm_logic.specs.View.{term_tree, terms_tree, types_tree}
 use Rattle.zm_logic.proofs.Lists.{with_term, terms_depth_more}
 use Rattle.term_store.specs.declared.ids.TermId.{TermId}
-use Rattle.term_store.specs.Change.{AreTermIds}
+use Rattle.term_store.specs.Change.{AreTermIds, IsTermId}
 use Rattle.term_store.specs.Fault.{IfTooDeep}
 use Rattle.term_store.proofs.Kept.{extends_more}
 use Rattle.term_store.proofs.Stays.{term_ids_stay, term_ids_push, terms_tree_more, term_depth_within, if_deeper}
@@ -42,3 +42,12 @@ enter_terms-loop-term-preserved t c =
       fits = omega (arith, depths, same, before.fits, made.fits);
       kept = extends_more c.args.self.now c.loop-term.self new before.kept made.kept;
     }
+
+pub enter_app-enter_over-requires-clause-fits : goal.enter_app-enter_over-requires-clause-fits
+enter_app-enter_over-requires-clause-fits t c =
+    subst (λ x. terms_depth x ≤ c.args.room) (sym c.in_ok-terms.ensures.made.1) c.in_ok-terms.ensures.fits
+
+pub enter_app-returns-clause-made : goal.enter_app-returns-clause-made
+enter_app-returns-clause-made t c =
+    let Q : tree.Terms → Type 0 = λ y. IfOk c.enter_over.result (IsTermId c.enter_over.new.self (tree.Term.app c.args.symbol.0 (types_tree c.args.types.now) y)) in
+    subst Q c.in_ok-terms.ensures.made.1 c.enter_over.ensures.made
