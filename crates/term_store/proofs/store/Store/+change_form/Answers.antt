@@ -130,3 +130,19 @@ change_body-returns-clause-made_body t c =
 pub change_body-returns-clause-kept : goal.change_body-returns-clause-kept
 change_body-returns-clause-kept t c =
     extends_more c.args.self.now c.change_ty.new.self c.change_form.new.self c.in_ok-ty.ensures.kept c.in_ok-f.ensures.kept
+
+pub change_not-returns-clause-kept : goal.change_not-returns-clause-kept
+change_not-returns-clause-kept t c =
+    extends_more c.args.self.now c.change_form.new.self c.put_not.new.self c.in_ok-f.ensures.kept c.put_not.ensures.kept
+
+pub change_binary-returns-clause-kept : goal.change_binary-returns-clause-kept
+change_binary-returns-clause-kept t c =
+    extends_more c.args.self.now c.change_two.new.self c.put_binary.new.self c.in_ok-f.ensures.kept c.put_binary.ensures.kept
+
+pub change_quantified-returns-clause-kept : goal.change_quantified-returns-clause-kept
+change_quantified-returns-clause-kept t c =
+    extends_more c.args.self.now c.change_body.new.self c.put_quantified.new.self c.in_ok-ty.ensures.kept c.put_quantified.ensures.kept
+
+pub change_all_type-returns-clause-kept : goal.change_all_type-returns-clause-kept
+change_all_type-returns-clause-kept t c =
+    extends_more c.args.self.now c.change_form.new.self c.put_all_type.new.self c.in_ok-f.ensures.kept c.put_all_type.ensures.kept

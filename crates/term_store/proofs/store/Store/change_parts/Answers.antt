@@ -18,8 +18,11 @@ change_terms-requires c =
     let s = c.args.self.now in
     let m = c.change_tys.new.self in
     let kept = c.in_ok-types.ensures.kept in
-    let same = ap terms_depth (kept_terms s m kept c.args.terms.now c.requires.terms_below) in
-    (still_terms s m kept c.args.terms.now c.requires.terms_below, (change_stays s m kept c.args.change.now c.requires.part, c.in_ok-types.ensures.knows))
+    record {
+      below = still_terms s m kept c.args.terms.now c.requires.terms_below;
+      part = change_stays s m kept c.args.change.now c.requires.part;
+      knows = c.in_ok-types.ensures.knows;
+    }
 
 pub returns-in_err-terms-clause-deep : goal.returns-in_err-terms-clause-deep
 returns-in_err-terms-clause-deep c =

@@ -28,4 +28,4 @@ returns-clause-deep c =
     let terms = ap terms_depth (kept_terms c.args.self.now m c.in_ok-types.ensures.kept c.args.terms c.requires.below) in
     let types = ap types_depth c.in_ok-types.ensures.made.1 in
     err_deeper (2000 < 1 + max (types_depth (types_at (all_trees m).types c.in_ok-types.types)) (terms_depth (terms_at (all_trees m).terms c.args.terms))) (c.args.room < types_depth (types_tree c.args.types.now))
-      (λ h. omega (arith, h, terms, types, c.requires.fits, c.requires.room, c.in_ok-types.ensures.fits)) c.put_term.result c.put_term.ensures.deep
+    (λ h. omega (arith, h, terms, types, c.requires.fits, c.requires.room, c.in_ok-types.ensures.fits)) c.put_term.result c.put_term.ensures.deep
