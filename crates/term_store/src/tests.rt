@@ -212,13 +212,23 @@ fn parameters_differ_by_number_and_type(rt: HostRuntime) -> Result<(), Fail> {
     Ok(())
 }
 
+// p(under, e), where e carries list(under)
+fn typed(alloc: Global, under: &Ty) -> Result<Form, AllocError> {
+    let carried = list(alloc, under.copy(alloc)?)?;
+    atom(alloc, under.copy(alloc)?, Term::Eps(6, carried))
+}
+
+// ! [X: list(here)] : f
+fn for_all(alloc: Global, here: &Ty, f: Form) -> Result<Form, AllocError> {
+    let body = Boxed::new(alloc, f)?;
+    Ok(Form::All(list(alloc, here.copy(alloc)?)?, body))
+}
+
 // p(here, #0) => ! [X: list(here)] : p(under, e), where e carries list(under): a type at the top and under one binder
 fn types_under(alloc: Global, here: &Ty, under: &Ty) -> Result<Form, AllocError> {
     let first = atom(alloc, here.copy(alloc)?, Term::Bound(0))?;
-    let carried = list(alloc, under.copy(alloc)?)?;
-    let second = atom(alloc, under.copy(alloc)?, Term::Eps(6, carried))?;
-    let domain = list(alloc, here.copy(alloc)?)?;
-    implies(alloc, first, Form::All(domain, Boxed::new(alloc, second)?))
+    let second = for_all(alloc, here, typed(alloc, under)?)?;
+    implies(alloc, first, second)
 }
 
 // $true | ~(m = a), where m is a metavariable that carries the type
@@ -431,13 +441,13 @@ fn trees_come_back(rt: HostRuntime) -> Result<(), Fail> {
     Ok(())
 }
 
-// f(..f(u)..), f standing so many times
-fn nested(alloc: Global, u: Term, times: u32) -> Result<Term, AllocError> {
+// p($i, f(..f(u)..)), of depth 2000 where u has depth 1
+fn deep_in_terms(alloc: Global, u: Term) -> Result<Form, AllocError> {
     let mut all = u;
-    for _step in 0..times {
+    for _step in 0..1998u32 {
         all = applied(alloc, all)?;
     }
-    Ok(all)
+    atom(alloc, individual(alloc), all)
 }
 
 #[test]
@@ -445,23 +455,21 @@ fn terms_at_the_depth(rt: HostRuntime) -> Result<(), Fail> {
     let alloc = rt.alloc();
     let mut store = Store::new(alloc);
     let with = entered_term(&mut store, &constant(alloc))?;
-    let inner = nested(alloc, Term::Bound(0), 1998)?;
-    let body = atom(alloc, individual(alloc), inner)?;
+    let body = deep_in_terms(alloc, Term::Bound(0))?;
     let made = opened(&mut store, &body, Opening::OfTerm(with))?;
-    let inner = nested(alloc, constant(alloc), 1998)?;
-    let instance = atom(alloc, individual(alloc), inner)?;
+    let instance = deep_in_terms(alloc, constant(alloc))?;
     assert_eq!(rt; made, entered(&mut store, &instance)?);
     assert!(rt; again(&mut store, &instance)?.same(&instance));
     Ok(())
 }
 
-// list(..list(t)..), list standing so many times
-fn listed(alloc: Global, t: Ty, times: u32) -> Result<Ty, AllocError> {
+// p(list(..list(t)..), a), of depth 2000 where t has depth 1
+fn deep_in_types(alloc: Global, t: Ty) -> Result<Form, AllocError> {
     let mut all = t;
-    for _step in 0..times {
+    for _step in 0..1998u32 {
         all = list(alloc, all)?;
     }
-    Ok(all)
+    atom(alloc, all, constant(alloc))
 }
 
 #[test]
@@ -469,11 +477,9 @@ fn types_at_the_depth(rt: HostRuntime) -> Result<(), Fail> {
     let alloc = rt.alloc();
     let mut store = Store::new(alloc);
     let with = made_individual(alloc, &mut store)?;
-    let outer = listed(alloc, Ty::Bound(0), 1998)?;
-    let body = atom(alloc, outer, constant(alloc))?;
+    let body = deep_in_types(alloc, Ty::Bound(0))?;
     let made = opened(&mut store, &body, Opening::OfType(with))?;
-    let outer = listed(alloc, individual(alloc), 1998)?;
-    let instance = atom(alloc, outer, constant(alloc))?;
+    let instance = deep_in_types(alloc, individual(alloc))?;
     assert_eq!(rt; made, entered(&mut store, &instance)?);
     Ok(())
 }
