@@ -459,6 +459,14 @@ fn terms_at_the_depth(rt: HostRuntime) -> Result<(), Fail> {
     let made = opened(&mut store, &body, Opening::OfTerm(with))?;
     let instance = deep_in_terms(alloc, constant(alloc))?;
     assert_eq!(rt; made, entered(&mut store, &instance)?);
+    Ok(())
+}
+
+#[test]
+fn a_deep_term_comes_back(rt: HostRuntime) -> Result<(), Fail> {
+    let alloc = rt.alloc();
+    let mut store = Store::new(alloc);
+    let instance = deep_in_terms(alloc, constant(alloc))?;
     assert!(rt; again(&mut store, &instance)?.same(&instance));
     Ok(())
 }
