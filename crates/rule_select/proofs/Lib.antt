@@ -1,0 +1,9 @@
+mod Instances
+mod Kept
+mod Beside
+mod Collected
+mod AtParameters
+mod TypedRule
+mod Selected
+mod Sorted
+mod Worked
