@@ -1,5 +1,6 @@
 -- From a well typed instance of a tree: the part of each index in the tree has its type.
 use Rattle.std.proofs.Common.{ℕ, ◌≡◌, Bool, true, false, ◌||◌, ◌⊎◌, inl, inr, refl, ap, sym, ◌∙◌, subst, arith, List}
+use Rattle.std.proofs.lemmas.Bool.Decides.{Decides-eqb}
 use Rattle.zm_logic.specs.Tree.{Ty, Tys, Term, Terms, Opening, Symbol}
 use Rattle.zm_logic.specs.Opening.{type_at, term_at, type_instance, types_instance}
 use Rattle.zm_logic.specs.Parameter.{EachInType, EachInTypes, EachInTerm, EachInTerms, Never}

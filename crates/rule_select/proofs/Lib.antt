@@ -6,4 +6,5 @@ mod AtParameters
 mod TypedRule
 mod Selected
 mod Sorted
+mod Numbers
 mod Worked

@@ -197,21 +197,21 @@ member : (r q : Rule) (rs : List Rule) → Contains (q ∷ rs) r → (q ≡ r) �
 member r q rs (zero, h, e) = inl e
 member r q rs (suc k, h, e) = inr (k, omega arith, e)
 
-first_premise : {P : Premise → Type 0} {p : Premise} {ps : List Premise} → All P (p ∷ ps) → P p
-first_premise a = a 0 _ (omega arith)
+first_premise : (P : Premise → Type 0) (p : Premise) (ps : List Premise) → All P (p ∷ ps) → P p
+first_premise P p ps a = a 0 p (omega arith)
 
-other_premises : {P : Premise → Type 0} {p : Premise} {ps : List Premise} → All P (p ∷ ps) → All P ps
-other_premises a i d l = a (suc i) d (omega arith)
+other_premises : (P : Premise → Type 0) (p : Premise) (ps : List Premise) → All P (p ∷ ps) → All P ps
+other_premises P p ps a i d l = a (suc i) d (omega arith)
 
 sorted_rules : (symbols : List Symbol) {n : ℕ} {ps : List Premise} {rules : List Rule} {numbers : List (Option ℕ)}
     → All (λ p. IsProblemForm symbols p.form) ps → Sorts n ps rules numbers → (r : Rule) → Contains rules r → IsSound symbols r
 sorted_rules symbols a Sorts.done r h = absurd (omega arith)
 sorted_rules symbols a (Sorts.rule {p = p} {r = q} {ps = ps} {rules = rules} k x) r h =
     elim (member r q rules h) [
-      | inl e ↦ subst (IsSound symbols) e (rule_is_sound symbols p q (first_premise {p = p} {ps = ps} a) k)
-      | inr l ↦ sorted_rules symbols (other_premises {p = p} {ps = ps} a) x r l
+      | inl e ↦ subst (IsSound symbols) e (rule_is_sound symbols p q (first_premise (λ p. IsProblemForm symbols p.form) p ps a) k)
+      | inr l ↦ sorted_rules symbols (other_premises (λ p. IsProblemForm symbols p.form) p ps a) x r l
     ]
-sorted_rules symbols a (Sorts.keep {p = p} {ps = ps} k x) r h = sorted_rules symbols (other_premises {p = p} {ps = ps} a) x r h
+sorted_rules symbols a (Sorts.keep {p = p} {ps = ps} k x) r h = sorted_rules symbols (other_premises (λ p. IsProblemForm symbols p.form) p ps a) x r h
 
 pub selected_rules_are_sound : laws.SelectedRulesAreSound
 selected_rules_are_sound p s r typed (inl h) m = sorted_rules p.symbols typed.premises h r m
@@ -226,7 +226,7 @@ selected_rules_have_no_parameter p s typed selects r m =
 
 pub steps_keep_typing : laws.StepsKeepTyping
 steps_keep_typing p s f g typed selects w step =
-    let sound = λ r m. selected_rules_are_sound p s r typed selects m in
+    let sound : (r : Rule) → Contains s.rules r → IsSound p.symbols r = λ r m. selected_rules_are_sound p s r typed selects m in
     let keep = sound_rules_keep_types p.symbols typed.signature s.rules sound in
     let v = step_keeps p.symbols s.rules keep typed.signature step w in
     (v, Congruent.forward w step (Congruent.same v))

@@ -16,13 +16,15 @@ first_is_one (FirstLawful.later n h) (FirstLawful.later m k) = first_is_one h k
 sorts_alike : {n : ℕ} {ps : List Premise} {rs ss : List Rule} {ks ls : List (Option ℕ)} → Sorts n ps rs ks → Sorts n ps ss ls
     → (rs ≡ ss) × (ks ≡ ls)
 sorts_alike Sorts.done Sorts.done = (refl, refl)
-sorts_alike (Sorts.rule h x) (Sorts.rule k y) = let e = first_is_one h k in let ih = sorts_alike x y in (cc (e, ih), cc (ih))
+sorts_alike (Sorts.rule {n = n} h x) (Sorts.rule k y) = let e = first_is_one h k in let ih = sorts_alike x y in (cc (e, ih.0), ap (◌∷◌ (Some n)) ih.1)
 sorts_alike (Sorts.rule {r = r} h x) (Sorts.keep k y) = absurd (k r h)
 sorts_alike (Sorts.keep h x) (Sorts.rule {r = r} k y) = absurd (h r k)
-sorts_alike (Sorts.keep h x) (Sorts.keep k y) = let ih = sorts_alike x y in (ih.0, cc (ih))
+sorts_alike (Sorts.keep h x) (Sorts.keep k y) = let ih = sorts_alike x y in (ih.0, ap (◌∷◌ None) ih.1)
 
 pub selection_is_determined : laws.SelectionIsDetermined
-selection_is_determined p s t h k = let e = sorts_alike h k in cc (e)
+selection_is_determined p s t h k =
+    let e = sorts_alike h k in
+    ap (λ x. record { rules = x; rule_of = s.rule_of }) e.0 ∙ ap (λ x. record { rules = t.rules; rule_of = x }) e.1
 
 -- a number from n on is that of the rule which its premise is
 numbered : {n : ℕ} {ps : List Premise} {rules : List Rule} {numbers : List (Option ℕ)} → Sorts n ps rules numbers → (i k : ℕ) (p : Premise)
@@ -74,7 +76,7 @@ pub each_premise_is_rule_or_kept : laws.EachPremiseIsRuleOrKept
 each_premise_is_rule_or_kept p s (inl h) = counted h
 each_premise_is_rule_or_kept p s (inr e) =
     subst (λ s. (length s.rule_of ≡ length p.premises) × (length s.rules + length (kept_premises p s) ≡ length p.premises)) (sym e)
-    (none_length p.premises, ap length (all_of p.premises))
+    (none_length p.premises, omega (arith, ap length (all_of p.premises)))
 
 next : (g : ℕ → Option Premise) (n : ℕ) (p : Premise) (ps : List Premise) → ((j : ℕ) → g (n + j) ≡ slice_get (p ∷ ps) j)
     → (j : ℕ) → g (suc n + j) ≡ slice_get ps j

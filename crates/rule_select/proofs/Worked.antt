@@ -167,7 +167,7 @@ pub circular_definitions_are_kept : worked.CircularDefinitionsAreKept
 circular_definitions_are_kept =
     Sorts.keep
     (λ r h. none_of_one
-    (λ l. l.ends (Side.of_form (worked.predicate_of 1 (eps 0))) (IsPart.of_quantified 0 ((tt, tt)) IsPart.itself)
+    (λ l. l.ends (Side.of_form (worked.predicate_of 1 (eps 0))) (IsPart.of_quantified 0 (tt, (tt, (tt, tt))) IsPart.itself)
     (Opening.of_term (eps 0) ∷ [], Fit.a_term tt Fit.none, refl))
     h)
     Sorts.done

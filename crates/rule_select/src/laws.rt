@@ -26,7 +26,6 @@ pub fn kept_premises_are_no_rules()
 {}
 
 /// Each premise is a rule or kept.
-#[tactic(auto, using(crate::proofs::Sorted::each_premise_is_rule_or_kept))]
 pub fn each_premise_is_rule_or_kept()
     ensures { EachPremiseIsRuleOrKept }
 {}
@@ -44,13 +43,11 @@ pub fn keeping_all_keeps_the_premises()
 {}
 
 /// Each rule of a selection of a typed problem is sound.
-#[tactic(auto, using(crate::proofs::Selected::selected_rules_are_sound))]
 pub fn selected_rules_are_sound()
     ensures { SelectedRulesAreSound }
 {}
 
 /// No parameter occurs in the rules of a selection of a typed problem.
-#[tactic(auto, using(crate::proofs::Selected::selected_rules_have_no_parameter))]
 pub fn selected_rules_have_no_parameter()
     ensures { SelectedRulesHaveNoParameter }
 {}

@@ -22,13 +22,15 @@ pub struct Selection {
 
 impl Selection {
     /// The numbers of the kept premises, counted from 0, in order.
+    #[tactic(auto, using(crate::proofs::Numbers::kept_more, crate::proofs::Numbers::numbered_more))]
     pub fn kept(&self, alloc: Global) -> Result<Vec<usize>, AllocError>
         ensures { IfOk result (λ numbers. numbers.items ≡ kept_numbers (selection_tree self.now)) }
     {
         let mut numbers = Vec::new(alloc);
         for (number, rule) in self.rule_of.as_slice().iter().enumerate() {
-            if rule.is_none() {
-                numbers.push(number)?;
+            match rule {
+                None => numbers.push(number)?,
+                Some(_) => {}
             }
         }
         Ok(numbers)
@@ -36,6 +38,7 @@ impl Selection {
 }
 
 /// The selection that keeps every premise of the problem, so that it has no rule.
+#[tactic(auto, using(crate::proofs::Numbers::none_for_each, crate::proofs::Numbers::none_more))]
 pub fn keep_all(alloc: Global, problem: &TypedProblem) -> Result<Selection, AllocError>
     ensures { IfOk result (λ s. KeepsAll (problem_tree problem.now) (selection_tree s)) }
 {
