@@ -1,9 +1,12 @@
 -- The kept numbers of a list, one element further.
 use Rattle.std.proofs.Common.{ℕ, suc, ◌≡◌, ◌+◌, ◌<◌, ◌≤◌, min, refl, ap, sym, ◌∙◌, arith, Option, Some, None, List, [], ◌∷◌, ◌++◌, map, length, get_or, take}
-use Rattle.std.proofs.lemmas.List.{take_more, length-take-le, map-append}
+use Rattle.std.proofs.lemmas.List.{take_more, take_all, length-take-le, map-append}
 use Rattle.zm_logic.specs.declared.problem.Premise.{Premise}
-use Rattle.zm_logic.specs.View.{premise_tree}
-use Rattle.rule_select.specs.Selection.{kept_from}
+use Rattle.zm_logic.specs.declared.problem.Problem.{Problem}
+use Rattle.zm_logic.specs.declared.rule.Rule.{Rule}
+use Rattle.zm_logic.specs.View.{premise_tree, problem_tree}
+use Rattle.rule_select.specs.Selection.{KeepsAll, kept_from}
+use Rattle.rule_select.specs.View.{selection_tree}
 
 kept_push : (n : ℕ) (xs : List (Option ℕ)) → kept_from n (xs ++ None ∷ []) ≡ kept_from n xs ++ (n + length xs) ∷ []
 kept_push n [] = let e : n ≡ n + 0 = omega arith in ap (λ m. m ∷ []) e
@@ -41,3 +44,13 @@ none_for_each (p ∷ ps) = ap (λ ns. None ∷ ns) (none_for_each ps)
 pub none_more : (ps : List Premise) (i : ℕ) (d : Premise) → i < length ps
     → map {B = Option ℕ} (λ p. None) (take (i + 1) ps) ≡ map (λ p. None) (take i ps) ++ None ∷ []
 none_more ps i d l = ap (map (λ p. None)) (take_more ps i d l) ∙ map-append (λ p. None) (take i ps) (get_or ps i d ∷ [])
+
+-- the list that has no number for each premise of the problem, built up
+pub all_are_kept : (p q : Problem) (rules : List Rule) (numbers : List (Option ℕ)) (i : ℕ) (ps : List Premise) → q ≡ p → ps ≡ q.premises
+    → rules ≡ [] → numbers ≡ map (λ p. None) (take i ps) → length ps ≤ i
+    → KeepsAll (problem_tree p) (selection_tree (record { rules = rules; rule_of = numbers }))
+all_are_kept p q rules numbers i ps e f g h l =
+    let a : ps ≡ p.premises = f ∙ ap (λ x. x.premises) e in
+    let b : numbers ≡ map (λ p. None) (map premise_tree p.premises) =
+    h ∙ ap (map (λ p. None)) (take_all i ps l) ∙ ap (map (λ p. None)) a ∙ sym (none_for_each p.premises) in
+    rw (g, b) refl

@@ -38,7 +38,7 @@ impl Selection {
 }
 
 /// The selection that keeps every premise of the problem, so that it has no rule.
-#[tactic(auto, using(crate::proofs::Numbers::none_for_each, crate::proofs::Numbers::none_more))]
+#[tactic(auto, using(crate::proofs::Numbers::none_more))]
 pub fn keep_all(alloc: Global, problem: &TypedProblem) -> Result<Selection, AllocError>
     ensures { IfOk result (λ s. KeepsAll (problem_tree problem.now) (selection_tree s)) }
 {
