@@ -7,4 +7,5 @@ mod TypedRule
 mod Selected
 mod Sorted
 mod Numbers
+mod Truths
 mod Worked

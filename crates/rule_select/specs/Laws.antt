@@ -14,6 +14,10 @@ use Rattle.rule_select.specs.Sound.{IsSound}
 abbrev pub SelectionIsDetermined : Type 0
 SelectionIsDetermined = (p : Problem) (s t : Selection) → Selects p s → Selects p t → s ≡ t
 
+-- no problem is without one
+abbrev pub NoProblemLacksASelection : Type 0
+NoProblemLacksASelection = (p : Problem) → ((s : Selection) → Selects p s → ⊥) → ⊥
+
 -- the number of a premise's rule is that of a rule which the premise is
 abbrev pub NumbersNameRules : Type 0
 NumbersNameRules =

@@ -1,7 +1,7 @@
 //! What selections promise. Each function does nothing: its contract is the law.
 
-ghost use Rattle.rule_select.specs.Laws.{SelectionIsDetermined, NumbersNameRules, KeptPremisesAreNoRules};
-ghost use Rattle.rule_select.specs.Laws.{EachPremiseIsRuleOrKept, KeptNumbersNameKeptPremises};
+ghost use Rattle.rule_select.specs.Laws.{SelectionIsDetermined, NoProblemLacksASelection, NumbersNameRules};
+ghost use Rattle.rule_select.specs.Laws.{KeptPremisesAreNoRules, EachPremiseIsRuleOrKept, KeptNumbersNameKeptPremises};
 ghost use Rattle.rule_select.specs.Laws.{KeepingAllKeepsThePremises, SelectedRulesAreSound};
 ghost use Rattle.rule_select.specs.Laws.{SelectedRulesHaveNoParameter, StepsKeepTyping};
 ghost use Rattle.rule_select.specs.Worked.{CommutativityIsKept, DefinitionsAreRules, BothDirectionsAreTried};
@@ -11,6 +11,12 @@ ghost use Rattle.rule_select.specs.Worked.{CircularDefinitionsAreKept, Inclusion
 #[tactic(auto, using(crate::proofs::Sorted::selection_is_determined))]
 pub fn selection_is_determined()
     ensures { SelectionIsDetermined }
+{}
+
+/// No problem is without one. This says nothing of how it is found.
+#[tactic(auto, using(crate::proofs::Sorted::no_problem_lacks_a_selection))]
+pub fn no_problem_lacks_a_selection()
+    ensures { NoProblemLacksASelection }
 {}
 
 /// The number of a premise's rule is that of a rule which the premise is.
