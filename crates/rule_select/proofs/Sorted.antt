@@ -27,15 +27,15 @@ selection_is_determined p s t h k =
     ap (λ x. record { rules = x; rule_of = s.rule_of }) e.0 ∙ ap (λ x. record { rules = t.rules; rule_of = x }) e.1
 
 sorting_exists : (n : ℕ) (ps : List Premise) → ((rules : List Rule) (numbers : List (Option ℕ)) → Sorts n ps rules numbers → ⊥) → ⊥
-sorting_exists n [] no = no [] [] Sorts.done
-sorting_exists n (p ∷ ps) no =
+sorting_exists n [] lack = lack [] [] Sorts.done
+sorting_exists n (p ∷ ps) lack =
     sorting_exists n ps
-    (λ rules numbers x. no rules (None ∷ numbers)
-    (Sorts.keep (λ r h. sorting_exists (suc n) ps (λ rs ms y. no (r ∷ rs) (Some n ∷ ms) (Sorts.rule h y))) x))
+    (λ rules numbers x. lack rules (None ∷ numbers)
+    (Sorts.keep (λ r h. sorting_exists (suc n) ps (λ rs ms y. lack (r ∷ rs) (Some n ∷ ms) (Sorts.rule h y))) x))
 
 pub no_problem_lacks_a_selection : laws.NoProblemLacksASelection
-no_problem_lacks_a_selection p no =
-    sorting_exists 0 p.premises (λ rules numbers x. no (record { rules = rules; rule_of = numbers }) x)
+no_problem_lacks_a_selection p lack =
+    sorting_exists 0 p.premises (λ rules numbers x. lack (record { rules = rules; rule_of = numbers }) x)
 
 -- a number from n on is that of the rule which its premise is
 numbered : {n : ℕ} {ps : List Premise} {rules : List Rule} {numbers : List (Option ℕ)} → Sorts n ps rules numbers → (i k : ℕ) (p : Premise)
