@@ -172,6 +172,33 @@ circular_definitions_are_kept =
     h)
     Sorts.done
 
+abbrev two_constants : List Binder
+two_constants = Binder.of_term worked.constant_type ∷ Binder.of_term worked.constant_type ∷ []
+
+two_bound : (x : Side) → side_has 0 x ≡ true → side_has 1 x ≡ true → (i : ℕ) → i < length two_constants → side_has i x ≡ true
+two_bound x a b zero l = a
+two_bound x a b (suc zero) l = b
+two_bound x a b (suc (suc i)) l = absurd (omega arith)
+
+declared_equality : IsLawful Role.axiom_role (form_rule two_constants (Form.equal worked.constant_type (Term.bound 1) (Term.bound 0)) (worked.predicate 2))
+declared_equality = record {
+  bound = two_bound (Side.of_form (Form.equal worked.constant_type (Term.bound 1) (Term.bound 0))) refl refl;
+  ends = λ x part redex. no_equality_part worked.constant_type (Term.bound 1) (Term.bound 0) two_constants (worked.predicate 2) x _ tt part redex;
+  meant = inl (not_empty (Binder.of_term worked.constant_type) _);
+}
+
+-- a predicate with no argument lacks the variables of a binder
+lacks_variables : (b : Binder) (bs : List Binder) (g : Form) → IsLawful Role.axiom_role (form_rule (b ∷ bs) (worked.predicate 2) g) → ⊥
+lacks_variables b bs g l = let e = l.bound 0 (omega arith) in cc (e)
+
+pub equalities_at_declared_types_are_defined : worked.EqualitiesAtDeclaredTypesAreDefined
+equalities_at_declared_types_are_defined =
+    Sorts.rule (FirstLawful.first declared_equality)
+    (Sorts.keep (λ r h. none_of_one (lacks_variables _ _ _) h)
+    (Sorts.keep (λ r h. none_of_one (lacks_variables _ _ _) h)
+    (Sorts.keep (λ r h. none_of_one (lacks_variables _ _ _) h)
+    Sorts.done)))
+
 set_bound : (x : Side) → side_has 0 x ≡ true → side_has 1 x ≡ true → side_has 2 x ≡ true → (i : ℕ) → i < length worked.set_binders → side_has i x ≡ true
 set_bound x a b c zero l = a
 set_bound x a b c (suc zero) l = b

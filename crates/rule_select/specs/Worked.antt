@@ -67,6 +67,36 @@ circular = for_all individual (iff (predicate_of 1 (Term.bound 0)) (for_all indi
 abbrev pub CircularDefinitionsAreKept : Type 0
 CircularDefinitionsAreKept = Sorts 0 (premise Role.definition circular ∷ []) [] (None ∷ [])
 
+-- ! [X: t, Y: t] : (X = Y <=> q),  ! [A: $tType, X: A, Y: A] : (X = Y <=> q)  and  ! [X: c] : (X = X <=> q)
+abbrev pub equality_at : Ty → Form
+equality_at t = for_all t (for_all t (iff (Form.equal t (Term.bound 1) (Term.bound 0)) (predicate 2)))
+
+abbrev pub equality_at_variable : Form
+equality_at_variable =
+    Form.for_all_types
+    (for_all (Ty.bound 0) (for_all (Ty.bound 1) (iff (Form.equal (Ty.bound 2) (Term.bound 1) (Term.bound 0)) (predicate 2))))
+
+abbrev pub constant_type : Ty
+constant_type = Ty.con 1 Tys.none
+
+abbrev pub same_variable : Form
+same_variable = for_all constant_type (iff (Form.equal constant_type (Term.bound 0) (Term.bound 0)) (predicate 2))
+
+-- an equivalence defines the equality of two variables at a declared type, but not of individuals, not at a type
+-- variable, and not of a variable with itself
+abbrev pub EqualitiesAtDeclaredTypesAreDefined : Type 0
+EqualitiesAtDeclaredTypesAreDefined =
+    Sorts 0
+    (premise Role.axiom_role (equality_at constant_type)
+    ∷ premise Role.axiom_role (equality_at individual)
+    ∷ premise Role.axiom_role equality_at_variable
+    ∷ premise Role.axiom_role same_variable
+    ∷ [])
+    (form_rule (Binder.of_term constant_type ∷ Binder.of_term constant_type ∷ [])
+    (Form.equal constant_type (Term.bound 1) (Term.bound 0)) (predicate 2)
+    ∷ [])
+    (Some 0 ∷ None ∷ None ∷ None ∷ [])
+
 -- sets over a type, and atoms at a type and two terms
 abbrev pub set : Ty → Ty
 set t = Ty.con 1 (Tys.more t Tys.none)

@@ -5,7 +5,8 @@ ghost use Rattle.rule_select.specs.Laws.{KeptPremisesAreNoRules, EachPremiseIsRu
 ghost use Rattle.rule_select.specs.Laws.{KeepingAllKeepsThePremises, SelectedRulesAreSound};
 ghost use Rattle.rule_select.specs.Laws.{SelectedRulesHaveNoParameter, StepsKeepTyping};
 ghost use Rattle.rule_select.specs.Worked.{CommutativityIsKept, DefinitionsAreRules, BothDirectionsAreTried};
-ghost use Rattle.rule_select.specs.Worked.{CircularDefinitionsAreKept, InclusionAndExtensionalityAreRules};
+ghost use Rattle.rule_select.specs.Worked.{CircularDefinitionsAreKept, EqualitiesAtDeclaredTypesAreDefined};
+ghost use Rattle.rule_select.specs.Worked.{InclusionAndExtensionalityAreRules};
 
 /// A problem has no two selections with rules.
 #[tactic(auto, using(crate::proofs::Sorted::selection_is_determined))]
@@ -86,6 +87,13 @@ pub fn both_directions_are_tried()
 #[tactic(auto, using(crate::proofs::Worked::circular_definitions_are_kept))]
 pub fn circular_definitions_are_kept()
     ensures { CircularDefinitionsAreKept }
+{}
+
+/// `! [X: c, Y: c] : (X = Y <=> q)` is a rule for a declared type `c`; it is kept for individuals, at a type variable, and
+/// for a variable that equals itself.
+#[tactic(auto, using(crate::proofs::Worked::equalities_at_declared_types_are_defined))]
+pub fn equalities_at_declared_types_are_defined()
+    ensures { EqualitiesAtDeclaredTypesAreDefined }
 {}
 
 /// Polymorphic inclusion and extensionality of sets are rules, read from left to right.
