@@ -1,5 +1,5 @@
 -- Instances of the trees that a rule's side is built of, and of closed trees.
-use Rattle.std.proofs.Common.{ℕ, ◌≡◌, ◌≤◌, if◌then◌else◌, refl, ap, ◌∙◌, arith, List, [], ◌∷◌, length}
+use Rattle.std.proofs.Common.{ℕ, ◌≡◌, ◌≤◌, refl, ap, ◌∙◌, arith, List, [], ◌∷◌, length}
 use Rattle.std.proofs.lemmas.Bool.{ne_eqb}
 use Rattle.zm_logic.specs.Tree.{Ty, Tys, Term, Terms, Form, Opening, Side, iff}
 use Rattle.zm_logic.specs.Opening.{type_at, term_at, open_type, open_types, open_term, open_terms, open_at, type_instance, types_instance, side_instance}

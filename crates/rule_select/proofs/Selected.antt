@@ -1,18 +1,18 @@
 -- The rules that are selected from a typed problem are sound, so they keep types.
-use Rattle.std.proofs.Common.{ℕ, ◌≡◌, ◌+◌, ◌<◌, ◌==◌, zero, suc, Bool, true, false, ◌&&◌, if◌then◌else◌, ◌⊎◌, inl, inr, refl, ap, sym, ◌∙◌, subst, arith, Option, Some, None, List, [], ◌∷◌, ◌++◌, length, All}
+use Rattle.std.proofs.Common.{ℕ, ◌≡◌, ◌+◌, zero, suc, Bool, true, false, ◌&&◌, if◌then◌else◌, ◌⊎◌, inl, inr, refl, ap, sym, subst, arith, Option, List, [], ◌∷◌, ◌++◌, length, All}
 use Rattle.std.specs.List.{Contains}
-use Rattle.zm_logic.specs.Tree.{Ty, Term, Form, Connective, Quantifier, Opening, Symbol, Side, Rule, Binder, Role, Premise, Problem, iff, for_all}
+use Rattle.zm_logic.specs.Tree.{Ty, Term, Form, Connective, Quantifier, Opening, Symbol, Rule, Binder, Role, Premise, iff, for_all}
 use Rattle.zm_logic.specs.Opening.{open_at, at_term, at_type}
-use Rattle.zm_logic.specs.Parameter.{Parameter, IsNot, IsFresh, EachIn, EachInTerm, Never, HasNoParameter}
+use Rattle.zm_logic.specs.Parameter.{Parameter, IsNot, IsFresh, EachIn, EachInTerm, Never}
 use Rattle.zm_logic.specs.Index.{IsClosed}
 use Rattle.zm_logic.specs.Typing.{IsType, WellTyped}
-use Rattle.zm_logic.specs.Problem.{prenex, IsTypedRule, IsTypedProblem, IsProblemForm}
+use Rattle.zm_logic.specs.Problem.{prenex, IsTypedRule, IsProblemForm}
 use Rattle.zm_logic.specs.Rewriting.{Congruent}
 use Rattle.zm_logic.specs.Laws.{HasNoParameterIn}
 use Rattle.zm_logic.proofs.ClosedForm.{form_is_closed}
-use Rattle.rule_select.specs.Reading.{front, body, is_variable, is_declared, are_different_variables, is_definable, term_rule, form_rule, equality_read, equivalence_read, body_readings, readings}
+use Rattle.rule_select.specs.Reading.{front, body, is_declared, are_different_variables, form_rule, equality_read, equivalence_read, body_readings}
 use Rattle.rule_select.specs.Lawful.{IsLawful, FirstLawful, IsRule}
-use Rattle.rule_select.specs.Selection.{Selection, Sorts, Selects, KeepsAll, IsSelection}
+use Rattle.rule_select.specs.Selection.{Sorts}
 use Rattle.rule_select.specs.Sound.{IsClosedSide, IsPattern, IsSound}
 use Rattle.rule_select.specs.Laws as laws
 use Rattle.rule_select.proofs.Kept.{step_keeps}

@@ -1,9 +1,9 @@
 -- Sorted premises: determined, numbered by place, each a rule or kept.
-use Rattle.std.proofs.Common.{ℕ, zero, suc, ◌+◌, ◌≡◌, ◌⊎◌, inl, inr, refl, ap, sym, ◌∙◌, subst, arith, Option, Some, None, List, [], ◌∷◌, ◌++◌, map, length}
+use Rattle.std.proofs.Common.{ℕ, zero, suc, ◌+◌, ◌≡◌, inl, inr, refl, ap, sym, ◌∙◌, subst, arith, Option, Some, None, List, [], ◌∷◌, map, length}
 use Rattle.std.specs.Prelude.{slice_get}
-use Rattle.zm_logic.specs.Tree.{Rule, Role, Premise, Problem}
-use Rattle.rule_select.specs.Lawful.{IsLawful, FirstLawful, IsRule, IsKept}
-use Rattle.rule_select.specs.Selection.{Selection, Sorts, Selects, all_kept, KeepsAll, IsSelection, kept_from, kept_numbers, kept_of, kept_premises}
+use Rattle.zm_logic.specs.Tree.{Rule, Role, Premise}
+use Rattle.rule_select.specs.Lawful.{FirstLawful, IsRule, IsKept}
+use Rattle.rule_select.specs.Selection.{Sorts, kept_from, kept_of, kept_premises}
 use Rattle.rule_select.specs.Laws as laws
 
 -- a list has one first lawful rule

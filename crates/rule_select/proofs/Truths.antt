@@ -1,9 +1,8 @@
 -- The problem of the truth from two premises that are the truth is well typed.
-use Rattle.std.proofs.Common.{ℕ, zero, suc, ◌≡◌, ◌<◌, ◌++◌, refl, sym, subst, arith, List, [], ◌∷◌, length, get_or, All}
+use Rattle.std.proofs.Common.{zero, suc, ◌≡◌, ◌++◌, refl, sym, subst, arith, List, [], ◌∷◌, All}
 use Rattle.zm_logic.specs.declared.tree.Form.TheVariants as forms
 use Rattle.zm_logic.specs.declared.problem.Premise.{Premise}
 use Rattle.zm_logic.specs.declared.problem.Symbol.{Symbol}
-use Rattle.zm_logic.specs.Tree as tree
 use Rattle.zm_logic.specs.View.{form_tree, premise_tree, problem_tree}
 use Rattle.zm_logic.specs.Problem.{IsProblemForm, IsTypedProblem}
 use Rattle.zm_logic.proofs.Trivial.{asks_for_truth}

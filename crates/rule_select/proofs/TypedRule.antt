@@ -1,5 +1,5 @@
 -- A typed rule whose left side has every binder keeps the type of what it rewrites.
-use Rattle.std.proofs.Common.{ℕ, ◌≡◌, ◌<◌, true, ◌||◌, if◌then◌else◌, inl, inr, refl, ap, sym, ◌∙◌, subst, arith, List, map, length}
+use Rattle.std.proofs.Common.{ℕ, ◌≡◌, ◌<◌, true, ◌||◌, inl, inr, refl, ap, sym, ◌∙◌, subst, arith, List, map, length}
 use Rattle.std.specs.List.{Contains}
 use Rattle.zm_logic.specs.Tree.{Ty, Tys, Term, Terms, Form, Opening, Symbol, Side, Rule, Binder, iff}
 use Rattle.zm_logic.specs.Opening.{type_instance, types_instance, side_instance, openings}

@@ -1,6 +1,6 @@
 -- The worked examples.
 use Rattle.std.proofs.Common.{ℕ, zero, suc, ◌≡◌, ◌≢◌, ◌<◌, ◌+◌, refl, ap, sym, ◌∙◌, subst, arith, inl, inr, true, List, [], ◌∷◌, length}
-use Rattle.zm_logic.specs.Tree.{Ty, Tys, Term, Terms, Form, Connective, Quantifier, Opening, Binder, Side, Rule, Role}
+use Rattle.zm_logic.specs.Tree.{Ty, Tys, Term, Terms, Form, Connective, Opening, Binder, Side, Rule, Role}
 use Rattle.zm_logic.specs.Opening.{open_at, type_instance, types_instance}
 use Rattle.zm_logic.specs.Index.{side_has}
 use Rattle.zm_logic.specs.Typing.{individual}

@@ -1,5 +1,5 @@
 -- What selections promise. Each statement is the contract of a function of the module laws.
-use Rattle.std.specs.Prelude.{ℕ, ◌+◌, ◌≡◌, Option, Some, None, length, map, slice_get}
+use Rattle.std.specs.Prelude.{ℕ, ◌+◌, ◌≡◌, Some, None, length, map, slice_get}
 use Rattle.std.specs.List.{Contains}
 use Rattle.zm_logic.specs.Tree.{Form, Rule, Premise, Problem}
 use Rattle.zm_logic.specs.Typing.{WellTyped}

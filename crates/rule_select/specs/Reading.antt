@@ -1,5 +1,5 @@
 -- The rules that a formula may be read as.
-use Rattle.std.specs.Prelude.{ℕ, suc, ◌==◌, Bool, true, false, not, ◌&&◌, if◌then◌else◌, List, [], ◌∷◌, ◌++◌}
+use Rattle.std.specs.Prelude.{suc, ◌==◌, Bool, true, false, not, ◌&&◌, if◌then◌else◌, List, [], ◌∷◌, ◌++◌}
 use Rattle.zm_logic.specs.Tree.{Ty, Term, Form, Connective, Quantifier, Binder, Side, Rule}
 
 -- the binders of the universal quantifiers at the front of a formula, the outermost first
