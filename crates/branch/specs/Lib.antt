@@ -1,0 +1,15 @@
+pub mod Setting
+pub mod Branch
+pub mod RawOffers
+pub mod Instances
+pub mod Equality
+pub mod Pairs
+pub mod BranchOffers
+pub mod Innermost
+pub mod Normal
+pub mod Offers
+pub mod Tableau
+pub mod Stopping
+pub mod Introduced
+pub mod Facts
+pub mod Replaced

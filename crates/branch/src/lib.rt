@@ -1,0 +1,2 @@
+//! Branches and tableaux of the whole calculus.
+#![tactic(auto)]
