@@ -7,6 +7,8 @@ pub mod Pairs
 pub mod BranchOffers
 pub mod Innermost
 pub mod Normal
+pub mod Occurs
+pub mod Sound
 pub mod Offers
 pub mod Tableau
 pub mod Stopping
