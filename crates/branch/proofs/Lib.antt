@@ -5,3 +5,4 @@ pub mod Arguments
 pub mod Laws
 pub mod Closing
 pub mod Uses
+pub mod Bound
