@@ -6,3 +6,4 @@ pub mod Laws
 pub mod Closing
 pub mod Uses
 pub mod Bound
+pub mod Opened

@@ -9,6 +9,7 @@ pub mod Innermost
 pub mod Normal
 pub mod Occurs
 pub mod Sound
+pub mod Offered
 pub mod Offers
 pub mod Tableau
 pub mod Stopping
