@@ -7,3 +7,7 @@ pub mod Closing
 pub mod Uses
 pub mod Bound
 pub mod Opened
+pub mod Offered
+pub mod Made
+pub mod Sequent
+pub mod Children
