@@ -11,3 +11,4 @@ pub mod Offered
 pub mod Made
 pub mod Sequent
 pub mod Children
+pub mod Grows
