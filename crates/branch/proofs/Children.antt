@@ -96,7 +96,7 @@ differ_all P (Tys.more t ts) Terms.none vs w h k = tt
 differ_all P (Tys.more t ts) (Terms.more u us) Terms.none w h k = tt
 differ_all P (Tys.more t ts) (Terms.more u us) (Terms.more v vs) w h k = ((w.0, h.0, k.0), differ_all P ts us vs w.1 h.1 k.1)
 
-declared_once : (s : Setting) (p : ℕ) (d e : Symbol) → symbol_at s.symbols p ≡ Some d → symbol_at s.symbols p ≡ Some e → e ≡ d
+pub declared_once : (s : Setting) (p : ℕ) (d e : Symbol) → symbol_at s.symbols p ≡ Some d → symbol_at s.symbols p ≡ Some e → e ≡ d
 declared_once s p d e h k = let i : Some d ≡ Some e = sym h ∙ k in cc
 
 pub unequal_typed : (s : Setting) → IsSignature s.symbols → (p : ℕ) (d e : Symbol) (ts : Tys) (us vs : Terms)

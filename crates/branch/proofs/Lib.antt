@@ -12,3 +12,5 @@ pub mod Made
 pub mod Sequent
 pub mod Children
 pub mod Grows
+pub mod Rules
+pub mod Derived
