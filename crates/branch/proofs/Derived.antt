@@ -50,9 +50,9 @@ pub child_uses : (n : Node) (b : List Form) (v : Bool) → is_skipped n ≡ v �
 child_uses n b false q rest = rest q
 child_uses n b true q rest = skipped_uses n b q
 
-unskipped : (prunes idle : Bool) → idle ≡ false → (false || (prunes && idle)) ≡ false
-unskipped true idle e = e
-unskipped false idle e = refl
+unskipped : (prunes idle : Bool) → idle ≡ false → (false || (idle && prunes)) ≡ false
+unskipped prunes true e = cc
+unskipped prunes false e = refl
 
 module _ (s : Setting) (sound : IsSound s) where
   mutual

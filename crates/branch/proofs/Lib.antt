@@ -14,3 +14,7 @@ pub mod Children
 pub mod Grows
 pub mod Rules
 pub mod Derived
+pub mod Root
+pub mod Everywhere
+pub mod Open
+pub mod Replacing

@@ -138,7 +138,7 @@ abbrev mutual
 
 -- the children after a finished one are skipped where it is idle, if tableaux are pruned at all
 abbrev pub skips : Bool → List Form → List Form → Node → Bool
-skips prunes b f n = prunes && is_idle b f n (uses (extend b f) n)
+skips prunes b f n = is_idle b f n (uses (extend b f) n) && prunes
 
 -- The table of numbers.
 
