@@ -18,3 +18,4 @@ pub mod Root
 pub mod Everywhere
 pub mod Open
 pub mod Replacing
+pub mod Determined
