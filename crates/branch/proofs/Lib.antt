@@ -19,3 +19,4 @@ pub mod Everywhere
 pub mod Open
 pub mod Replacing
 pub mod Determined
+pub mod Picks
