@@ -17,7 +17,7 @@ use Rattle.branch.specs.Offered.{Solves, Offered}
 use Rattle.branch.specs.Introduced.{Above, part_of, IsIntroduced}
 use Rattle.branch.proofs.Inverted.{well_typed_negation, first_part, second_part, well_typed_atom, well_typed_left, well_typed_right, well_typed_equality}
 use Rattle.branch.proofs.Arguments.{argument_types_are}
-use Rattle.branch.proofs.Laws.{CarriesTypes}
+use Rattle.branch.proofs.Kept.{CarriesTypes}
 use Rattle.branch.proofs.Bound.{EachInBinding, PutsType, forms_each, terms_each, forms_put, terms_put}
 use Rattle.branch.proofs.Opened.{IsShape, shape, Fits, part_typed, own_fits, instance_derives, of_meta, of_type_meta, part_each, types_instance_each, own_each}
 use Rattle.branch.proofs.Sequent.{IsBranch}

@@ -18,7 +18,7 @@ use Rattle.branch.specs.Pairs.{Opposites, opposites, first_deep}
 use Rattle.branch.specs.BranchOffers.{Kind, Placed, Entry, entries, own_entries, instance_entries, BindingEntries, SingleEntries, PairEntries, PairsWith, EntriesFrom, has_equality, AreRawOffers}
 use Rattle.branch.specs.Offers.{Child, Offer, offer_of, MakesForm, MakesChild, MakesOffer, is_useful, AreOffers, IsOfferAt}
 use Rattle.branch.specs.Introduced.{Above, HasFacts}
-use Rattle.branch.proofs.Laws.{made_is}
+use Rattle.branch.proofs.Kept.{made_is}
 use Rattle.branch.proofs.Offered.{IsOffered, raw_offered}
 use Rattle.branch.proofs.Sequent.{of_facts}
 use Rattle.branch.proofs.Children.{AllOf, AllIn, offered_typed}
@@ -101,14 +101,14 @@ module _ (s : Setting) (table : List Form) where
 
 -- Offers.
 
-fault_is_not_made : {A : Type 0} (e : Fault) (a : A) (x : Made A) → x ≡ Made.fault e → x ≡ Made.made a → ⊥
+pub fault_is_not_made : {A : Type 0} (e : Fault) (a : A) (x : Made A) → x ≡ Made.fault e → x ≡ Made.made a → ⊥
 fault_is_not_made e a x p q = cc
 
-fault_is : {A : Type 0} (d e : Fault) → ◌≡◌ {A = Made A} (Made.fault d) (Made.fault e) → d ≡ e
+pub fault_is : {A : Type 0} (d e : Fault) → ◌≡◌ {A = Made A} (Made.fault d) (Made.fault e) → d ≡ e
 fault_is d e p = cc
 
 module _ {A B : Type 0} (Makes : A → Made B → Type 0) where
-  one_all : {xs : List A} {a b : Made (List B)} → ((x : A) → Contains xs x → (y z : Made B) → Makes x y → Makes x z → y ≡ z)
+  pub one_all : {xs : List A} {a b : Made (List B)} → ((x : A) → Contains xs x → (y z : Made B) → Makes x y → Makes x z → y ≡ z)
       → MakesAll Makes xs a → MakesAll Makes xs b → a ≡ b
   one_all h (MakesAll.none) (MakesAll.none) = refl
   one_all h (MakesAll.more {x = x} {y = y} {xs = xs} {ys = ys} m ms) (MakesAll.more {y = z} {ys = zs} n ns) =

@@ -2,7 +2,7 @@ pub mod Lists
 pub mod Branches
 pub mod Inverted
 pub mod Arguments
-pub mod Laws
+pub mod Kept
 pub mod Closing
 pub mod Uses
 pub mod Bound
@@ -20,3 +20,7 @@ pub mod Open
 pub mod Replacing
 pub mod Determined
 pub mod Picks
+pub mod NoRules
+pub mod Stopped
+pub mod Unpruned
+pub mod Lawful

@@ -11,7 +11,7 @@ use Rattle.branch.specs.Offers.{Child, Offer, offer_of, MakesForm, MakesChild, M
 use Rattle.branch.specs.Offered.{Offered}
 use Rattle.branch.proofs.Lists.{get-contains, filter-kept}
 use Rattle.branch.proofs.Offered.{IsOffered, raw_offered}
-use Rattle.branch.proofs.Laws.{made_is}
+use Rattle.branch.proofs.Kept.{made_is}
 
 -- each formula is the normal form of the one in its place
 abbrev pub AreReached : Setting → List Form → List Form → Type 0

@@ -11,7 +11,7 @@ use Rattle.branch.specs.Setting.{Setting}
 use Rattle.branch.specs.RawOffers.{QuantifierKind, Quantified, quantified, is_quantified, part_for, own_part, at_part}
 use Rattle.branch.specs.Introduced.{part_of}
 use Rattle.branch.proofs.Inverted.{well_typed_negation, binder_type}
-use Rattle.branch.proofs.Laws.{CarriesTypes}
+use Rattle.branch.proofs.Kept.{CarriesTypes}
 
 abbrev made : QuantifierKind → Binder → Bool → Form → Quantified
 made k b v a = record { kind = k; binder = b; holds = v; body = a }

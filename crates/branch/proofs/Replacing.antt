@@ -10,7 +10,7 @@ use Rattle.branch.specs.BranchOffers.{Kind}
 use Rattle.branch.specs.Offers.{Child, Offer, IsOfferAt}
 use Rattle.branch.specs.Tableau.{Node, Children, given, is_finished, are_finished, is_skipped, are_open, is_idle, uses, skips, enter, enter_child, after, IsLawful, AreLawful, Leaf, current, current_of, picks, picks_all, count, count_all, height, height_all}
 use Rattle.branch.specs.Replaced.{skipping, opening, replaced, replaced_in}
-use Rattle.branch.proofs.Open.{finished_current, finished_current_of, open_picks}
+use Rattle.branch.proofs.Open.{finished_current, open_picks, unfinished_current}
 
 -- what a Step's children were given stays
 skipping_given : (ns : Children) → given (skipping ns) ≡ given ns
@@ -54,7 +54,7 @@ module _ (s : Setting) where
   step_lawful t b k kind act children e h =
       (e, subst (IsOfferAt s t b k kind act) (sym (opening_given children)) h, open_lawful (opening children) t b (opening_open children))
 
-  unskipped : (n : Node) (b : List Form) (x : Node) → is_skipped x ≡ false → is_skipped n ≡ false → is_skipped (replaced s.prunes b x n) ≡ false
+  pub unskipped : (n : Node) (b : List Form) (x : Node) → is_skipped x ≡ false → is_skipped n ≡ false → is_skipped (replaced s.prunes b x n) ≡ false
   unskipped (Node.step k c a ns) b x e h = refl
   unskipped (Node.closed c) b x e h = refl
   unskipped Node.opened b x e h = e
@@ -65,28 +65,6 @@ module _ (s : Setting) where
   finished_skipped (Node.closed c) e = refl
   finished_skipped Node.opened e = refl
   finished_skipped Node.skipped e = absurd (let q = e in cc)
-
-  -- an unfinished node has a current leaf
-  mutual
-    pub unfinished_current : (n : Node) (t b : List Form) (d : ℕ) → is_finished n ≡ false → (leaf : Leaf) × (current t b d n ≡ Some leaf)
-    unfinished_current (Node.step k c a ns) t b d e = unfinished_current_of ns t b (d + 1) e
-    unfinished_current (Node.closed c) t b d e = absurd (let q = e in cc)
-    unfinished_current Node.opened t b d e = (record { branch = b; above = d; table = t }, refl)
-    unfinished_current Node.skipped t b d e = absurd (let q = e in cc)
-
-    pub unfinished_current_of : (ns : Children) (t b : List Form) (d : ℕ) → are_finished ns ≡ false → (leaf : Leaf) × (current_of t b d ns ≡ Some leaf)
-    unfinished_current_of Children.none t b d e = absurd (let q = e in cc)
-    unfinished_current_of (Children.more r f n ns) t b d e =
-        go (is_finished n) refl (unfinished_current n (enter_child t f n) (extend b f) d)
-        (λ z. unfinished_current_of ns (after (enter_child t f n) n) b d z) e
-      where
-        go : (v : Bool) → is_finished n ≡ v → (is_finished n ≡ false → (leaf : Leaf) × (current (enter_child t f n) (extend b f) d n ≡ Some leaf))
-            → (are_finished ns ≡ false → (leaf : Leaf) × (current_of (after (enter_child t f n) n) b d ns ≡ Some leaf))
-            → (v && are_finished ns) ≡ false → (leaf : Leaf) × (option_or (current (enter_child t f n) (extend b f) d n) (current_of (after (enter_child t f n) n) b d ns) ≡ Some leaf)
-        go true q x y e =
-            let z = y e in
-            (z.0, ap (λ o. option_or o (current_of (after (enter_child t f n) n) b d ns)) (finished_current n (enter_child t f n) (extend b f) d q) ∙ z.1)
-        go false q x y e = let z = x q in (z.0, ap (λ o. option_or o (current_of (after (enter_child t f n) n) b d ns)) z.1)
 
   leaf_is : (x y : Leaf) → Some x ≡ Some y → x ≡ y
   leaf_is x y e = cc

@@ -13,7 +13,7 @@ use Rattle.branch.specs.Tableau.{Node, is_finished, enter, IsTableau}
 use Rattle.branch.specs.Stopping.{IsRoot}
 use Rattle.branch.proofs.Branches.{extend-cases, extend-has}
 use Rattle.branch.proofs.Made.{AreReached}
-use Rattle.branch.proofs.Laws.{made_is, normal_keeps}
+use Rattle.branch.proofs.Kept.{made_is, normal_keeps}
 use Rattle.branch.proofs.Children.{AllOf}
 use Rattle.branch.proofs.Grows.{all_of, reached_all}
 use Rattle.branch.proofs.Rules.{Proves, converted}

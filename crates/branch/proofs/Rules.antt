@@ -19,7 +19,7 @@ use Rattle.branch.specs.Offered.{Offered}
 use Rattle.branch.specs.Introduced.{Above}
 use Rattle.branch.proofs.Inverted.{well_typed_negation, well_typed_atom, well_typed_left, well_typed_right}
 use Rattle.branch.proofs.Made.{AreReached, AreMade, raws}
-use Rattle.branch.proofs.Laws.{normal_keeps, one_normal}
+use Rattle.branch.proofs.Kept.{normal_keeps, one_normal}
 use Rattle.branch.proofs.Opened.{shape, own_derives}
 use Rattle.branch.proofs.Sequent.{IsBranch}
 use Rattle.branch.proofs.Children.{AllOf, declared_once, on_branch, term_instance, type_instance}

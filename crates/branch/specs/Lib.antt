@@ -16,3 +16,4 @@ pub mod Stopping
 pub mod Introduced
 pub mod Facts
 pub mod Replaced
+pub mod Laws
