@@ -24,3 +24,4 @@ pub mod NoRules
 pub mod Stopped
 pub mod Unpruned
 pub mod Lawful
+pub mod Worked

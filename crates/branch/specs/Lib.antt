@@ -17,3 +17,4 @@ pub mod Introduced
 pub mod Facts
 pub mod Replaced
 pub mod Laws
+pub mod Worked
