@@ -25,3 +25,4 @@ pub mod Stopped
 pub mod Unpruned
 pub mod Lawful
 pub mod Worked
+pub mod Pruned

@@ -7,6 +7,7 @@ use Rattle.zm_logic.specs.Typing.{individual, individuals}
 use Rattle.unify.specs.Equation.{Equation, TypeParts, TermParts, FormParts}
 use Rattle.unify.specs.Binding.{Binding}
 use Rattle.unify.specs.Unification.{AreSame, Binds, Splits, Unifies, UnifiesForms}
+use Rattle.unify.proofs.Determined.{one_form_parts}
 use Rattle.branch.specs.Setting.{Setting}
 use Rattle.branch.specs.Normal.{Made, MakesAll}
 use Rattle.branch.specs.RawOffers.{Act, Raw, on_with, one}
@@ -23,18 +24,18 @@ use Rattle.branch.proofs.NoRules.{itself}
 abbrev entry : Kind → Act → Form → Form → ℕ → Option ℕ → Placed
 entry k a f blamed j i = record { kind = k; raw = record { act = a; children = one f ∷ [] }; blamed = blamed; later = j; earlier = i }
 
-abbrev child : Form → List Child
+abbrev pub child : Form → List Child
 child f = record { raw = one f; normal = one f } ∷ []
 
 module _ (symbols : List Symbol) (n : ℕ) (v : Bool) where
-  one_made : (k : Kind) (a : Act) (f blamed : Form) (j : ℕ) (i : Option ℕ) → depth f ≤ 2000
+  pub one_made : (k : Kind) (a : Act) (f blamed : Form) (j : ℕ) (i : Option ℕ) → depth f ≤ 2000
       → MakesOffer (plain symbols n v) (Entry.offer (entry k a f blamed j i)) (Made.made (offer_of (entry k a f blamed j i) (child f)))
   one_made k a f blamed j i d =
       MakesOffer.made (MakesAll.more (MakesChild.made (MakesAll.more (MakesForm.normal d (itself f n f)) MakesAll.none)) MakesAll.none)
 
 -- the offer at place 0 of a branch, from its raw offers
 module _ (symbols : List Symbol) (n : ℕ) (v : Bool) (table branch : List Form) where
-  first_offer : (es : List Entry) (all listed : List Offer) (o : Offer) → AreRawOffers (plain symbols n v) table branch es
+  pub first_offer : (es : List Entry) (all listed : List Offer) (o : Offer) → AreRawOffers (plain symbols n v) table branch es
       → MakesAll (MakesOffer (plain symbols n v)) es (Made.made all) → filter (is_useful branch) all ≡ o ∷ listed
       → IsOfferAt (plain symbols n v) table branch 0 o.kind o.act o.children
   first_offer es all listed o raw made e = record {
@@ -271,3 +272,50 @@ clash (Unifies.splits {e = f} m s u) e = splits_clash s (let i : f ≡ Equation.
     splits_clash : {f : Equation} {fs gs : List Equation} → Splits [] f fs gs → f ≡ Equation.of_terms a b → ⊥
     splits_clash (Splits.types x y h) e = cc
     splits_clash (Splits.terms x y h k) e = cc
+
+parts : FormParts (p a) (p b) (Equation.of_terms a b ∷ [])
+parts = FormParts.atoms (TermParts.more TermParts.none) TypeParts.none
+
+module _ (n : ℕ) (v : Bool) where
+  abbrev symbols : List Symbol
+  symbols = unary ∷ constant ∷ record constant { name = codes "b" } ∷ []
+
+  abbrev equal : Setting
+  equal = plain symbols n v
+
+  abbrev branch : List Form
+  branch = p a ∷ a_is_b ∷ Form.negation (p b) ∷ []
+
+  abbrev arguments : Placed
+  arguments = entry Kind.equality (on_pair (p a) (p b) false) (differ individual a b) (Form.negation (p b)) 2 (Some 0)
+
+  with_atom : PairEntries equal [] true 2 0 (p a) (Form.negation (p b)) (Entry.offer arguments ∷ [])
+  with_atom =
+      PairEntries.opposed (record { plain = p a; denied = p b; earlier = p a; later = p b }) refl
+      (BindingEntries.apart (λ made u. clash u.2 (one_form_parts u.1 parts)))
+
+  with_equality : PairEntries equal [] true 2 1 a_is_b (Form.negation (p b)) []
+  with_equality =
+      PairEntries.opposed (record { plain = a_is_b; denied = p b; earlier = a_is_b; later = p b }) refl
+      (BindingEntries.apart (λ made u. no_parts_of_equality a_is_b (p b) u.0 u.1 refl b refl))
+
+  equality_raw : AreRawOffers equal [] branch (Entry.offer arguments ∷ [])
+  equality_raw =
+      EntriesFrom.more (SingleEntries.other (λ t x y e. cc)) PairsWith.none
+      (EntriesFrom.more (SingleEntries.other (λ t x y e. cc)) (PairsWith.more (PairEntries.apart refl) PairsWith.none)
+      (EntriesFrom.more (SingleEntries.other (λ t x y e. cc)) (PairsWith.more with_atom (PairsWith.more with_equality PairsWith.none)) EntriesFrom.none))
+
+  abbrev stepped : Offer
+  stepped = offer_of arguments (child (differ individual a b))
+
+  offered_equal : IsOfferAt equal [] branch 0 stepped.kind stepped.act stepped.children
+  offered_equal =
+      first_offer symbols n v [] branch (Entry.offer arguments ∷ []) (stepped ∷ []) [] stepped equality_raw
+      (MakesAll.more (one_made symbols n v Kind.equality (on_pair (p a) (p b) false) (differ individual a b) (Form.negation (p b)) 2 (Some 0) (omega arith)) MakesAll.none) refl
+
+pub equal_arguments : worked.EqualArguments
+equal_arguments n v = record {
+  tableau = record { lawful = (refl, offered_equal n v, (refl, refl, tt, λ z. refl)); entered = refl; high = omega arith };
+  finished = refl;
+  picked = refl;
+}

@@ -1,11 +1,13 @@
 -- Worked examples: closed tableaux with no rules, for any limit on rewrites, pruned or not. Each statement is the contract
 -- of a function of the module laws.
 use Rattle.std.specs.Prelude.{ℕ, codes, ◌≡◌, Bool, true, false, List, [], ◌∷◌}
-use Rattle.zm_logic.specs.Tree.{Ty, Tys, Term, Terms, Form, Opening, Symbol, Sense, for_all, exists, differ}
+use Rattle.zm_logic.specs.Tree.{Ty, Tys, Term, Terms, Form, Opening, Symbol, Sense, for_all, exists, both, either, differ}
+use Rattle.zm_logic.specs.Laws.{p_and_q, p_to_q}
 use Rattle.zm_logic.specs.Typing.{individual}
 use Rattle.branch.specs.Branch.{pair_of}
 use Rattle.branch.specs.Setting.{Setting}
-use Rattle.branch.specs.RawOffers.{Act, on_with, one}
+use Rattle.branch.specs.Normal.{Fault, Made, Normalizes, Reaches}
+use Rattle.branch.specs.RawOffers.{Act, on, on_with, one, two}
 use Rattle.branch.specs.Equality.{on_pair}
 use Rattle.branch.specs.BranchOffers.{Kind}
 use Rattle.branch.specs.Tableau.{Node, Children, IsTableau, is_finished, count, picks}
@@ -100,3 +102,43 @@ EqualArguments =
     (n : ℕ) (v : Bool)
     → IsClosedBy (plain (unary ∷ constant ∷ record constant { name = codes "b" } ∷ []) n v)
     (p a ∷ a_is_b ∷ Form.negation (p b) ∷ []) equal_tree (0 ∷ [])
+
+-- r | t  and  u & ~u: the branch of r is closed by the conjunction, which needs no r, so that of t is skipped
+abbrev pub letter : ℕ → Form
+letter n = Form.atom n Tys.none Terms.none
+
+abbrev pub letters : List Symbol
+letters =
+    record unary { name = codes "r"; arguments = Tys.none } ∷ record unary { name = codes "t"; arguments = Tys.none }
+    ∷ record unary { name = codes "u"; arguments = Tys.none } ∷ []
+
+abbrev pub r_or_t : Form
+r_or_t = either (letter 1) (letter 2)
+
+abbrev pub not_u : Form
+not_u = Form.negation (letter 3)
+
+abbrev pub u_and_not_u : Form
+u_and_not_u = both (letter 3) not_u
+
+abbrev pub pruned_tree : Node
+pruned_tree =
+    Node.step 0 Kind.beta (on r_or_t)
+    (Children.more (one (letter 1)) (one (letter 1))
+    (Node.step 0 Kind.alpha (on u_and_not_u)
+    (Children.more (two (letter 3) not_u) (two (letter 3) not_u) (Node.closed (pair_of (letter 3) not_u false)) Children.none))
+    (Children.more (one (letter 2)) (one (letter 2)) Node.skipped Children.none))
+
+abbrev pub SkippedSibling : Type 0
+SkippedSibling =
+    (n : ℕ) → IsClosedBy (plain letters n true) (r_or_t ∷ u_and_not_u ∷ []) pruned_tree (0 ∷ 0 ∷ [])
+
+-- by the rule  p --> q  the formula  ~p  has the normal form  ~q, if one step may be made, and else none
+abbrev pub rewriting : ℕ → Setting
+rewriting n = record { symbols = p_and_q; rules = p_to_q; rewrites = n; prunes = true }
+
+abbrev pub NormalInOneStep : Type 0
+NormalInOneStep = Reaches (rewriting 1) (Form.negation (letter 1)) (Form.negation (letter 2))
+
+abbrev pub SpentAtTheLimit : Type 0
+SpentAtTheLimit = Normalizes (rewriting 0) (Form.negation (letter 1)) (Made.fault (Fault.rewrites (Form.negation (letter 1))))

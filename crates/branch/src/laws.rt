@@ -5,6 +5,8 @@ ghost use Rattle.branch.specs.Laws.{FactsHoldOnEachBranch, DeltaNumbersAreFresh,
 ghost use Rattle.branch.specs.Laws.{ClosedTableauxProveProblems, OffersAreDetermined, PicksDetermineTheTree};
 ghost use Rattle.branch.specs.Laws.{CausesAreDetermined, OpenTableauxHaveACurrentLeaf, StepsAreLawful};
 ghost use Rattle.branch.specs.Laws.{LeavesMayBeReplaced, ReplacedLeavesAreCurrent, UnprunedTableauxHaveNoSkipped};
+ghost use Rattle.branch.specs.Worked.{InstanceOverTerms, InstanceOverTypes, EqualArguments, SkippedSibling};
+ghost use Rattle.branch.specs.Worked.{NormalInOneStep, SpentAtTheLimit};
 
 /// Each raw offer of a branch is one by the rules of offers.
 #[tactic(auto, using(crate::proofs::Lawful::raw_offers_are_by_rule))]
@@ -88,4 +90,35 @@ pub fn replaced_leaves_are_current()
 #[tactic(auto, using(crate::proofs::Unpruned::unpruned))]
 pub fn unpruned_tableaux_have_no_skipped()
     ensures { UnprunedTableauxHaveNoSkipped }
+{}
+
+/// `? [X] : p(X)` and `! [X] : ~p(X)` are refuted by `p(e0)`, `~p(m1)` and the instance `~p(e0)`.
+pub fn instance_over_terms()
+    ensures { InstanceOverTerms }
+{}
+
+/// `! [A: $tType] : q(A)` and `~q($i)` are refuted by `q(A0)` and the instance `q($i)`.
+pub fn instance_over_types()
+    ensures { InstanceOverTypes }
+{}
+
+/// `p(a)`, `a = b` and `~p(b)` are refuted by `~(a = b)`.
+#[tactic(auto, using(crate::proofs::Worked::equal_arguments))]
+pub fn equal_arguments()
+    ensures { EqualArguments }
+{}
+
+/// From `r | t` and `u & ~u` the branch of `r` is closed without `r`, and that of `t` is skipped.
+pub fn skipped_sibling()
+    ensures { SkippedSibling }
+{}
+
+/// By `p --> q`, and one step at the most, `~p` has the normal form `~q`.
+pub fn normal_in_one_step()
+    ensures { NormalInOneStep }
+{}
+
+/// With no step allowed, `~p` has none, and `~p` is named.
+pub fn spent_at_the_limit()
+    ensures { SpentAtTheLimit }
 {}
