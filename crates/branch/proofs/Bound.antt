@@ -1,5 +1,5 @@
 -- What the bindings of sides on a branch have in common with the sides: parameters, and types.
-use Rattle.std.proofs.Common.{◌≡◌, ℕ, ◌+◌, ◌==◌, ◌&&◌, Bool, true, false, if◌then◌else◌, refl, ap, sym, subst, ◌∙◌, List, [], ◌∷◌, ◌++◌, ◌⊎◌, inl, inr, Contains}
+use Rattle.std.proofs.Common.{◌≡◌, ℕ, ◌+◌, ◌==◌, ◌&&◌, Bool, true, false, if◌then◌else◌, refl, ap, sym, subst, ◌∙◌, List, [], ◌∷◌, inl, inr, Contains}
 use Rattle.std.proofs.lemmas.List.Elements.{Contains-append_cases}
 use Rattle.zm_logic.specs.Tree.{Ty, Tys, Term, Terms, Form, Symbol}
 use Rattle.zm_logic.specs.Parameter.{Parameter, EachInType, EachInTypes, EachInTerm, EachInTerms, EachIn}
@@ -8,7 +8,7 @@ use Rattle.zm_logic.specs.Same.{same_type}
 use Rattle.zm_logic.proofs.Sames.{Contains-none, only}
 use Rattle.unify.specs.Substitution.{put_type, put_types, put_term, put_terms}
 use Rattle.unify.specs.Equation.{Equation, TypeParts, TermParts, FormParts}
-use Rattle.unify.specs.Binding.{Binding, only_type, only_term, solved_type, solved_term, head_type, head_term}
+use Rattle.unify.specs.Binding.{Binding, only_type, only_term, solved_type, solved_term}
 use Rattle.unify.specs.Unification.{Binds, Splits, Unifies, UnifiesForms, UnifiesTerms}
 use Rattle.unify.proofs.Closed.{EachType, EachTerm, Sides, RightSides, of_head_type, of_head_term}
 use Rattle.branch.specs.Instances.{solved, in_order}

@@ -1,5 +1,5 @@
 -- What stands on an extended branch, and where the closing pair of a branch comes from.
-use Rattle.std.proofs.Common.{◌≡◌, Bool, true, false, cond, refl, subst, List, [], ◌∷◌, ◌++◌, ◌⊎◌, inl, inr, Contains, None, Some, append_assoc}
+use Rattle.std.proofs.Common.{◌≡◌, Bool, true, false, cond, refl, subst, List, [], ◌∷◌, ◌++◌, ◌⊎◌, inl, inr, Contains, Some, append_assoc}
 use Rattle.std.proofs.lemmas.List.Elements.{Contains-append_left, Contains-append_right, Contains-push, Contains-push_cases}
 use Rattle.zm_logic.proofs.Sames.{Contains-here, Contains-there, Contains-cases, Contains-none, has-contains}
 use Rattle.zm_logic.specs.Tree.{Form}

@@ -1,6 +1,6 @@
 -- The raw formulas of an offer's children are well typed, and their parameters are those of the branch and the offer's own.
-use Rattle.std.proofs.Common.{◌≡◌, ℕ, true, refl, sym, subst, ◌∙◌, List, [], ◌∷◌, Contains, Some, slice_get}
-use Rattle.zm_logic.specs.Tree.{Ty, Tys, Term, Terms, Form, Connective, Opening, Binder, Symbol, differ}
+use Rattle.std.proofs.Common.{◌≡◌, ℕ, refl, sym, subst, ◌∙◌, List, [], ◌∷◌, Contains, Some, slice_get}
+use Rattle.zm_logic.specs.Tree.{Ty, Tys, Term, Terms, Form, Connective, Opening, Symbol, differ}
 use Rattle.zm_logic.specs.Parameter.{Parameter, number, Never, EachIn, EachInTypes, EachInTerms}
 use Rattle.zm_logic.specs.Typing.{AreTypes, HasType, HaveTypes, WellTyped, IsSignature, symbol_at, how_many, argument_types}
 use Rattle.zm_logic.specs.Calculus.{Derives, differ_each}
@@ -9,7 +9,7 @@ use Rattle.zm_logic.proofs.Typed.{no_parameters}
 use Rattle.unify.specs.Binding.{Binding}
 use Rattle.branch.specs.Setting.{Setting}
 use Rattle.branch.specs.Sound.{IsSound}
-use Rattle.branch.specs.RawOffers.{Act, QuantifierKind, Quantified, quantified, on_with, one, split, own_part, number_of, at_part}
+use Rattle.branch.specs.RawOffers.{Act, Quantified, quantified, on_with, one, split, own_part, number_of, at_part}
 use Rattle.branch.specs.Instances.{in_order}
 use Rattle.branch.specs.Equality.{singles, unequal}
 use Rattle.branch.specs.BranchOffers.{Kind, opened_kind}
@@ -19,7 +19,7 @@ use Rattle.branch.proofs.Inverted.{well_typed_negation, first_part, second_part,
 use Rattle.branch.proofs.Arguments.{argument_types_are}
 use Rattle.branch.proofs.Kept.{CarriesTypes}
 use Rattle.branch.proofs.Bound.{EachInBinding, PutsType, forms_each, terms_each, forms_put, terms_put}
-use Rattle.branch.proofs.Opened.{IsShape, shape, Fits, part_typed, own_fits, instance_derives, of_meta, of_type_meta, part_each, types_instance_each, own_each}
+use Rattle.branch.proofs.Opened.{shape, Fits, part_typed, own_fits, instance_derives, of_meta, of_type_meta, part_each, types_instance_each, own_each}
 use Rattle.branch.proofs.Sequent.{IsBranch}
 
 abbrev pub AllOf : (Form → Type 0) → List Form → Type 0

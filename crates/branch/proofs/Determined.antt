@@ -1,7 +1,6 @@
 -- A branch has one list of raw offers and one list of offers.
-use Rattle.std.proofs.Common.{◌≡◌, ℕ, ◌+◌, ◌<◌, ◌≤◌, Bool, refl, ap, sym, subst, ◌∙◌, arith, List, [], ◌∷◌, ◌++◌, length, inl, inr, Contains, Option, None, Some, cond, filter, slice_get}
-use Rattle.zm_logic.specs.Tree.{Ty, Term, Form, Opening, differ}
-use Rattle.zm_logic.specs.Measure.{depth}
+use Rattle.std.proofs.Common.{◌≡◌, ℕ, Bool, refl, ap, sym, subst, ◌∙◌, arith, List, [], ◌∷◌, ◌++◌, length, Contains, Option, None, Some, cond, filter, slice_get}
+use Rattle.zm_logic.specs.Tree.{Term, Form, Opening, differ}
 use Rattle.zm_logic.specs.Typing.{WellTyped}
 use Rattle.zm_logic.proofs.Sames.{Contains-here, Contains-there}
 use Rattle.unify.specs.Equation.{Equation}
@@ -14,8 +13,8 @@ use Rattle.branch.specs.Normal.{Fault, Made, MakesAll}
 use Rattle.branch.specs.RawOffers.{Act, Raw}
 use Rattle.branch.specs.Instances.{Instances, in_order, instance_of}
 use Rattle.branch.specs.Equality.{value_steps, pair_steps}
-use Rattle.branch.specs.Pairs.{Opposites, opposites, first_deep}
-use Rattle.branch.specs.BranchOffers.{Kind, Placed, Entry, entries, own_entries, instance_entries, BindingEntries, SingleEntries, PairEntries, PairsWith, EntriesFrom, has_equality, AreRawOffers}
+use Rattle.branch.specs.Pairs.{opposites, first_deep}
+use Rattle.branch.specs.BranchOffers.{Kind, Entry, entries, own_entries, instance_entries, BindingEntries, SingleEntries, PairEntries, PairsWith, EntriesFrom, has_equality, AreRawOffers}
 use Rattle.branch.specs.Offers.{Child, Offer, offer_of, MakesForm, MakesChild, MakesOffer, is_useful, AreOffers, IsOfferAt}
 use Rattle.branch.specs.Introduced.{Above, HasFacts}
 use Rattle.branch.proofs.Kept.{made_is}

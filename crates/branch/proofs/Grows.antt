@@ -19,8 +19,8 @@ use Rattle.branch.specs.Introduced.{Above, part_of, IsIntroduced}
 use Rattle.branch.proofs.Lists.{get-contains, filter-has}
 use Rattle.branch.proofs.Branches.{extend-cases, extend-keeps, extend-has}
 use Rattle.branch.proofs.Made.{AreReached}
-use Rattle.branch.proofs.Kept.{CarriesTypes, normal_keeps, one_normal}
-use Rattle.branch.proofs.Opened.{IsShape, shape, quantified_is, binder_is_type, own_fits, part_typed, of_eps, of_meta}
+use Rattle.branch.proofs.Kept.{CarriesTypes, normal_keeps}
+use Rattle.branch.proofs.Opened.{shape, quantified_is, binder_is_type, own_fits, part_typed, of_eps, of_meta}
 use Rattle.branch.proofs.Sequent.{IsBranch}
 use Rattle.branch.proofs.Children.{AllOf, AllIn, on_branch, offered_typed, offered_each}
 

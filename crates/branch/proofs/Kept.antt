@@ -1,5 +1,5 @@
 -- Facts of parameters that pass to normal forms, and facts of lists.
-use Rattle.std.proofs.Common.{◌≡◌, ℕ, suc, sym, subst, refl, List, [], ◌∷◌, ◌⊎◌, inl, inr}
+use Rattle.std.proofs.Common.{◌≡◌, ℕ, suc, sym, subst, refl, List, inl, inr}
 use Rattle.zm_logic.specs.Tree.{Ty, Tys, Term, Terms, Form, Rule, Side}
 use Rattle.zm_logic.specs.Parameter.{Parameter, EachInType, EachInTypes, EachInTerm, EachInTerms, EachIn}
 use Rattle.zm_logic.specs.Typing.{IsType, WellTyped}

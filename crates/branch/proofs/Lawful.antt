@@ -1,7 +1,7 @@
 -- The laws, each in the words of its contract.
-use Rattle.std.proofs.Common.{◌≡◌, ℕ, ◌+◌, ◌≤◌, Bool, true, false, refl, sym, subst, ◌∙◌, arith, List, [], ◌∷◌, ◌++◌, ◌⊎◌, inl, inr, Contains, None, Some, map}
+use Rattle.std.proofs.Common.{◌≡◌, ℕ, Bool, true, false, refl, sym, subst, ◌∙◌, arith, List, [], ◌∷◌, ◌⊎◌, inl, inr, Contains, None, Some, map}
 use Rattle.std.proofs.lemmas.List.Elements.{All-contains, Contains-append_cases}
-use Rattle.zm_logic.specs.Tree.{Form, Premise, Problem, Symbol}
+use Rattle.zm_logic.specs.Tree.{Form, Premise, Problem}
 use Rattle.zm_logic.specs.Parameter.{IsFresh, IsFreshForAll, HasNoParameter}
 use Rattle.zm_logic.specs.Typing.{WellTyped, IsSignature}
 use Rattle.zm_logic.specs.Problem.{IsProblemForm, IsTypedProblem}
@@ -9,7 +9,7 @@ use Rattle.zm_logic.specs.Calculus.{Derives}
 use Rattle.zm_logic.specs.Truth.{refuted}
 use Rattle.zm_logic.proofs.Sames.{Contains-here, Contains-there, Contains-cases, Contains-none, only}
 use Rattle.branch.specs.Setting.{Setting}
-use Rattle.branch.specs.Sound.{IsSound, AreGiven}
+use Rattle.branch.specs.Sound.{AreGiven}
 use Rattle.branch.specs.RawOffers.{number_of}
 use Rattle.branch.specs.BranchOffers.{Entry}
 use Rattle.branch.specs.Tableau.{Leaf, enter, is_finished, current_leaf}

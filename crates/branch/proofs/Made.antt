@@ -1,13 +1,13 @@
 -- An offer that is listed comes from a raw offer, and its children are reached from the raw ones.
-use Rattle.std.proofs.Common.{◌≡◌, ℕ, true, refl, ap, sym, subst, ◌∙◌, List, [], ◌∷◌, inl, inr, Contains, Some, filter}
+use Rattle.std.proofs.Common.{◌≡◌, ℕ, true, refl, ap, sym, subst, ◌∙◌, List, [], ◌∷◌, inl, inr, Contains, filter}
 use Rattle.std.proofs.lemmas.List.Elements.{All-contains, filter_passes}
 use Rattle.zm_logic.specs.Tree.{Form}
 use Rattle.zm_logic.proofs.Sames.{Contains-here, Contains-there, Contains-cases, Contains-none}
 use Rattle.branch.specs.Setting.{Setting}
-use Rattle.branch.specs.Normal.{Made, Normalizes, Reaches, MakesAll}
+use Rattle.branch.specs.Normal.{Made, Reaches, MakesAll}
 use Rattle.branch.specs.RawOffers.{Act}
-use Rattle.branch.specs.BranchOffers.{Kind, Placed, Entry}
-use Rattle.branch.specs.Offers.{Child, Offer, offer_of, MakesForm, MakesChild, MakesOffer, is_useful, AreOffers, IsOfferAt}
+use Rattle.branch.specs.BranchOffers.{Kind, Entry}
+use Rattle.branch.specs.Offers.{Child, Offer, MakesForm, MakesChild, MakesOffer, is_useful, IsOfferAt}
 use Rattle.branch.specs.Offered.{Offered}
 use Rattle.branch.proofs.Lists.{get-contains, filter-kept}
 use Rattle.branch.proofs.Offered.{IsOffered, raw_offered}

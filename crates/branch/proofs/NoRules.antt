@@ -1,13 +1,11 @@
 -- Without rules nothing has a step, and each formula is its own normal form.
-use Rattle.std.proofs.Common.{◌≡◌, ℕ, refl, sym, subst, List, [], ◌∷◌}
-use Rattle.zm_logic.specs.Tree.{Term, Terms, Form, Side, Symbol}
-use Rattle.zm_logic.specs.Parameter.{EachIn}
+use Rattle.std.proofs.Common.{◌≡◌, ℕ, refl, subst, []}
+use Rattle.zm_logic.specs.Tree.{Term, Terms, Form, Side}
 use Rattle.zm_logic.specs.Typing.{IsSignature}
 use Rattle.zm_logic.specs.Rewriting.{RewritesBySome, TermStep, TermsStep, Step}
 use Rattle.zm_logic.proofs.Sames.{Contains-none}
 use Rattle.branch.specs.Setting.{Setting}
-use Rattle.branch.specs.Innermost.{IsNormal}
-use Rattle.branch.specs.Normal.{Made, NormalizesFrom, Reaches}
+use Rattle.branch.specs.Normal.{Made, NormalizesFrom}
 use Rattle.branch.specs.Sound.{IsSound}
 use Rattle.branch.proofs.Kept.{innermost_step}
 

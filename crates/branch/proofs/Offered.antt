@@ -1,7 +1,7 @@
 -- Each raw offer is one by the rules.
-use Rattle.std.proofs.Common.{◌≡◌, ◌==◌, ◌+◌, ℕ, Bool, true, false, ◌&&◌, cond, refl, ap, sym, subst, List, [], ◌∷◌, ◌++◌, inl, inr, Contains, Option, None, Some, slice_get, length}
+use Rattle.std.proofs.Common.{◌≡◌, ◌==◌, ℕ, Bool, true, false, ◌&&◌, cond, refl, sym, subst, List, [], ◌∷◌, ◌++◌, inl, inr, Contains, Option, None, Some, slice_get, length}
 use Rattle.std.proofs.lemmas.Bool.{eqb-true}
-use Rattle.std.proofs.lemmas.List.Elements.{Contains-append_left, Contains-append_right, Contains-append_cases}
+use Rattle.std.proofs.lemmas.List.Elements.{Contains-append_cases}
 use Rattle.zm_logic.specs.Tree.{Ty, Term, Form, Opening, differ}
 use Rattle.zm_logic.specs.Typing.{symbol_at}
 use Rattle.zm_logic.specs.Same.{same_type, same_types}
@@ -9,11 +9,11 @@ use Rattle.zm_logic.proofs.Sames.{Contains-here, Contains-there, Contains-cases,
 use Rattle.unify.specs.Binding.{Binding}
 use Rattle.unify.specs.Unification.{UnifiesForms, UnifiesTerms}
 use Rattle.branch.specs.Setting.{Setting}
-use Rattle.branch.specs.RawOffers.{Act, Raw, Quantified, on, on_with, one, split, split_offers, quantified, own_part, number_of, at_part, opened, opened_offers}
+use Rattle.branch.specs.RawOffers.{Raw, Quantified, on, on_with, one, split, split_offers, quantified, own_part, number_of, at_part, opened, opened_offers}
 use Rattle.branch.specs.Instances.{Instances, in_order, instance_of, opened_where}
 use Rattle.branch.specs.Equality.{unequal, has_arguments, on_pair, step, value_steps, pair_steps}
 use Rattle.branch.specs.Pairs.{Opposites, opposites}
-use Rattle.branch.specs.BranchOffers.{Kind, Placed, Entry, entries, split_kind, opened_kind, opened_entries, own_entries, instance_entries, BindingEntries, SingleEntries, PairEntries, PairsWith, EntriesFrom, has_equality, AreRawOffers}
+use Rattle.branch.specs.BranchOffers.{Kind, Entry, entries, split_kind, opened_kind, opened_entries, own_entries, instance_entries, BindingEntries, SingleEntries, PairEntries, PairsWith, EntriesFrom, has_equality, AreRawOffers}
 use Rattle.branch.specs.Offered.{Solves, Offered}
 
 -- a raw offer is one by the rules, if it isn't one for bindings that are too deep

@@ -1,6 +1,6 @@
 -- The worked examples of a skipped sibling and of normal forms.
-use Rattle.std.proofs.Common.{◌≡◌, ◌≤◌, ℕ, true, false, refl, sym, subst, arith, List, [], ◌∷◌, ◌⊎◌, inl, inr, None, Some}
-use Rattle.zm_logic.specs.Tree.{Ty, Term, Terms, Form, Connective, Opening, Side, Rule, differ}
+use Rattle.std.proofs.Common.{◌≡◌, ◌≤◌, ℕ, true, false, refl, sym, subst, arith, List, [], ◌∷◌, None}
+use Rattle.zm_logic.specs.Tree.{Terms, Form, Opening, Side, Rule}
 use Rattle.zm_logic.specs.Measure.{depth}
 use Rattle.zm_logic.specs.Opening.{side_instance}
 use Rattle.zm_logic.specs.Rewriting.{Fit, Rewrites, RewritesBySome, TermsStep, Step}
@@ -10,8 +10,8 @@ use Rattle.branch.specs.Setting.{Setting}
 use Rattle.branch.specs.Innermost.{FirstRewrites, InnermostStep}
 use Rattle.branch.specs.Normal.{Made, NormalizesFrom, MakesAll}
 use Rattle.branch.specs.RawOffers.{on, one, two}
-use Rattle.branch.specs.BranchOffers.{Kind, Placed, Entry, BindingEntries, SingleEntries, PairEntries, PairsWith, EntriesFrom, AreRawOffers}
-use Rattle.branch.specs.Offers.{Child, Offer, offer_of, MakesForm, MakesChild, MakesOffer, IsOfferAt}
+use Rattle.branch.specs.BranchOffers.{Kind, Placed, Entry, SingleEntries, PairEntries, PairsWith, EntriesFrom}
+use Rattle.branch.specs.Offers.{Offer, offer_of, MakesForm, MakesChild, MakesOffer, IsOfferAt}
 use Rattle.branch.specs.Worked as worked
 use Rattle.branch.specs.Worked.{plain, letter, letters, r_or_t, not_u, u_and_not_u}
 use Rattle.branch.proofs.NoRules.{itself}

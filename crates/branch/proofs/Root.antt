@@ -5,7 +5,6 @@ use Rattle.zm_logic.specs.Tree.{Form}
 use Rattle.zm_logic.specs.Parameter.{Never, HasNoParameter}
 use Rattle.zm_logic.specs.Typing.{WellTyped}
 use Rattle.zm_logic.proofs.Sames.{Contains-here, Contains-there, Contains-none}
-use Rattle.branch.specs.Branch.{extend}
 use Rattle.branch.specs.Setting.{Setting}
 use Rattle.branch.specs.Sound.{IsSound, AreGiven}
 use Rattle.branch.specs.Normal.{Made, Normalizes, MakesAll}

@@ -1,5 +1,5 @@
 -- An offer is a rule of the calculus: with a derivation for each child's raw formulas added, it gives one.
-use Rattle.std.proofs.Common.{◌≡◌, ℕ, Bool, true, false, not, refl, ap, sym, subst, ◌∙◌, List, [], ◌∷◌, ◌++◌, inl, inr, Contains, Some}
+use Rattle.std.proofs.Common.{◌≡◌, ℕ, Bool, true, false, not, refl, sym, subst, ◌∙◌, List, [], ◌∷◌, ◌++◌, inl, inr, Contains, Some}
 use Rattle.std.proofs.lemmas.List.Elements.{Contains-append_right}
 use Rattle.zm_logic.specs.Tree.{Tys, Term, Terms, Form, Connective, Symbol, differ}
 use Rattle.zm_logic.specs.Parameter.{IsFresh, IsFreshForAll, Never}
@@ -10,7 +10,7 @@ use Rattle.zm_logic.proofs.Sames.{Contains-here, Contains-there, Contains-cases,
 use Rattle.branch.specs.Setting.{Setting}
 use Rattle.branch.specs.Sound.{IsSound}
 use Rattle.branch.specs.Normal.{Reaches}
-use Rattle.branch.specs.RawOffers.{Act, QuantifierKind, one, split, number_of, own_part, at_part}
+use Rattle.branch.specs.RawOffers.{Act, one, split, number_of, own_part, at_part}
 use Rattle.branch.specs.Equality.{singles, unequal}
 use Rattle.branch.specs.BranchOffers.{Kind}
 use Rattle.branch.specs.Offers.{Child, Offer, has_all, has_some, normals, is_useful}

@@ -1,17 +1,14 @@
 -- A tree stops for one cause.
-use Rattle.std.proofs.Common.{◌≡◌, ℕ, ◌+◌, ◌<◌, ◌≤◌, false, refl, ap, sym, subst, ◌∙◌, arith, List, [], ◌∷◌, ◌++◌, inl, inr, Contains, None, Some, Option}
-use Rattle.std.proofs.lemmas.List.Elements.{Contains-append_left, Contains-append_right}
-use Rattle.std.specs.Option.{option_or}
-use Rattle.zm_logic.specs.Tree.{Form, Side}
+use Rattle.std.proofs.Common.{◌≡◌, ℕ, ◌+◌, refl, ap, sym, subst, ◌∙◌, arith, List, [], ◌∷◌, ◌++◌, inl, inr, Some}
+use Rattle.zm_logic.specs.Tree.{Form}
 use Rattle.zm_logic.proofs.Sames.{Contains-here, Contains-there}
-use Rattle.branch.specs.Branch.{closing, extend}
+use Rattle.branch.specs.Branch.{extend}
 use Rattle.branch.specs.Setting.{Setting}
 use Rattle.branch.specs.Sound.{IsSound, AreGiven}
 use Rattle.branch.specs.Normal.{Fault, Made, Normalizes, MakesAll}
-use Rattle.branch.specs.BranchOffers.{Entry}
 use Rattle.branch.specs.Offers.{Offer, AreOffers, HasFault}
 use Rattle.branch.specs.Tableau.{Node, Children, Leaf, IsTableau, enter, enter_child, after, current, current_of, current_leaf, count}
-use Rattle.branch.specs.Stopping.{IsRoot, Cause, by_fault, HasOffer, StopsAt, StopsInside, StopsAtRoot, Stopped}
+use Rattle.branch.specs.Stopping.{IsRoot, Cause, by_fault, StopsAt, StopsInside, StopsAtRoot, Stopped}
 use Rattle.branch.specs.Introduced.{Above, HasFacts}
 use Rattle.branch.specs.Facts.{EachBranch, EachBelow}
 use Rattle.branch.proofs.Lists.{or-cases}

@@ -1,9 +1,9 @@
 -- Where tableaux aren't pruned no node is Skipped.
-use Rattle.std.proofs.Common.{◌≡◌, Bool, true, false, ◌&&◌, ◌||◌, refl, sym, subst, ◌∙◌, List, None, Some, ℕ}
+use Rattle.std.proofs.Common.{◌≡◌, Bool, true, false, ◌&&◌, ◌||◌, refl, subst, List}
 use Rattle.zm_logic.specs.Tree.{Form}
 use Rattle.branch.specs.Branch.{extend}
 use Rattle.branch.specs.Setting.{Setting}
-use Rattle.branch.specs.Tableau.{Node, Children, is_idle, is_skipped, skips, uses, enter_child, after, IsLawful, AreLawful, IsTableau}
+use Rattle.branch.specs.Tableau.{Node, Children, is_idle, is_skipped, uses, enter_child, after, IsLawful, AreLawful}
 use Rattle.branch.specs.Laws as laws
 
 never_skips : (prunes idle : Bool) → prunes ≡ false → (false || (idle && prunes)) ≡ false

@@ -10,12 +10,11 @@ use Rattle.unify.specs.Unification.{AreSame, Binds, Splits, Unifies, UnifiesForm
 use Rattle.unify.proofs.Determined.{one_form_parts}
 use Rattle.branch.specs.Setting.{Setting}
 use Rattle.branch.specs.Normal.{Made, MakesAll}
-use Rattle.branch.specs.RawOffers.{Act, Raw, on_with, one}
+use Rattle.branch.specs.RawOffers.{Act, on_with, one}
 use Rattle.branch.specs.Instances.{Instances}
 use Rattle.branch.specs.Equality.{on_pair}
 use Rattle.branch.specs.BranchOffers.{Kind, Placed, Entry, BindingEntries, SingleEntries, PairEntries, PairsWith, EntriesFrom, AreRawOffers}
-use Rattle.branch.specs.Offers.{Child, Offer, offer_of, MakesForm, MakesChild, MakesOffer, is_useful, AreOffers, IsOfferAt}
-use Rattle.branch.specs.Tableau.{IsTableau}
+use Rattle.branch.specs.Offers.{Child, Offer, offer_of, MakesForm, MakesChild, MakesOffer, is_useful, IsOfferAt}
 use Rattle.branch.specs.Worked as worked
 use Rattle.branch.specs.Worked.{plain, unary, constant, type_predicate, p, some_p, no_p, e0, m1, q, all_q, not_q, a, b, a_is_b}
 use Rattle.branch.proofs.NoRules.{itself}

@@ -1,6 +1,6 @@
 -- The steps of equality.
-use Rattle.std.specs.Prelude.{ℕ, Bool, true, false, ◌&&◌, ◌==◌, cond, List, [], ◌∷◌, ◌++◌, Option, None, Some}
-use Rattle.zm_logic.specs.Tree.{Ty, Tys, Term, Terms, Form, Symbol, differ}
+use Rattle.std.specs.Prelude.{Bool, true, false, ◌&&◌, ◌==◌, cond, List, [], ◌∷◌, ◌++◌, Option, None, Some}
+use Rattle.zm_logic.specs.Tree.{Tys, Term, Terms, Form, Symbol, differ}
 use Rattle.zm_logic.specs.Typing.{symbol_at, argument_types}
 use Rattle.zm_logic.specs.Calculus.{differ_each}
 use Rattle.zm_logic.specs.Same.{same_type, same_types}

@@ -1,6 +1,6 @@
 -- Leftmost innermost steps, and formulas without a step.
 -- A place under a binder is opened with a parameter whose number is fresh on both sides of the step.
-use Rattle.std.specs.Prelude.{ℕ, ◌≡◌, List, [], ◌∷◌}
+use Rattle.std.specs.Prelude.{ℕ, ◌≡◌, List, ◌∷◌}
 use Rattle.zm_logic.specs.Tree.{Ty, Tys, Term, Terms, Form, Connective, Quantifier, Rule, Side, Opening}
 use Rattle.zm_logic.specs.Opening.{side_instance, at_term, at_type}
 use Rattle.zm_logic.specs.Parameter.{IsFresh}

@@ -1,5 +1,5 @@
 -- Two formulas of which one is a negation, and the bindings of two sides.
-use Rattle.std.specs.Prelude.{ℕ, nat_lt, ◌≡◌, cond, List, [], ◌∷◌, ◌++◌, Option, None, Some}
+use Rattle.std.specs.Prelude.{ℕ, nat_lt, cond, List, [], ◌∷◌, Option, None, Some}
 use Rattle.std.specs.Option.{option_or}
 use Rattle.zm_logic.specs.Tree.{Form, Term, Side}
 use Rattle.zm_logic.specs.Measure.{type_depth, term_depth}

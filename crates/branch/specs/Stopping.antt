@@ -3,7 +3,7 @@ use Rattle.std.specs.Prelude.{ℕ, ◌<◌, ◌≡◌, ◌≢◌, List, [], ◌�
 use Rattle.zm_logic.specs.Tree.{Form, Side}
 use Rattle.branch.specs.Branch.{closing, extend}
 use Rattle.branch.specs.Setting.{Setting}
-use Rattle.branch.specs.Normal.{Fault, Made, Normalizes, Reaches, MakesAll}
+use Rattle.branch.specs.Normal.{Fault, Made, Normalizes, MakesAll}
 use Rattle.branch.specs.Offers.{Offer, AreOffers, HasFault}
 use Rattle.branch.specs.Tableau.{Node, Leaf, IsTableau, current_leaf, count, picks}
 

@@ -10,7 +10,7 @@ use Rattle.branch.specs.Normal.{Fault, Made, Normalizes, Reaches}
 use Rattle.branch.specs.RawOffers.{Act, on, on_with, one, two}
 use Rattle.branch.specs.Equality.{on_pair}
 use Rattle.branch.specs.BranchOffers.{Kind}
-use Rattle.branch.specs.Tableau.{Node, Children, IsTableau, is_finished, count, picks}
+use Rattle.branch.specs.Tableau.{Node, Children, IsTableau, is_finished, picks}
 
 abbrev pub plain : List Symbol → ℕ → Bool → Setting
 plain symbols n v = record { symbols = symbols; rules = []; rewrites = n; prunes = v }
