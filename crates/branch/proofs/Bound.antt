@@ -1,17 +1,18 @@
 -- What the bindings of sides on a branch have in common with the sides: parameters, and types.
-use Rattle.std.proofs.Common.{◌≡◌, ℕ, ◌+◌, ◌==◌, ◌&&◌, Bool, true, false, if◌then◌else◌, refl, ap, sym, subst, ◌∙◌, List, [], ◌∷◌, inl, inr, Contains}
-use Rattle.std.proofs.lemmas.List.Elements.{Contains-append_cases}
+use Rattle.std.proofs.Common.{◌≡◌, ℕ, ◌+◌, ◌==◌, ◌&&◌, Bool, true, false, if◌then◌else◌, refl, ap, sym, subst, ◌∙◌, List, [], ◌∷◌, inl, inr, Contains, reverse}
 use Rattle.zm_logic.specs.Tree.{Ty, Tys, Term, Terms, Form, Symbol}
 use Rattle.zm_logic.specs.Parameter.{Parameter, EachInType, EachInTypes, EachInTerm, EachInTerms, EachIn}
 use Rattle.zm_logic.specs.Typing.{IsType, AreTypes, HasType, HaveTypes, WellTyped, argument_types, how_many}
 use Rattle.zm_logic.specs.Same.{same_type}
-use Rattle.zm_logic.proofs.Sames.{Contains-none, only}
+use Rattle.zm_logic.proofs.Sames.{Contains-none, Contains-cases}
 use Rattle.unify.specs.Substitution.{put_type, put_types, put_term, put_terms}
 use Rattle.unify.specs.Equation.{Equation, TypeParts, TermParts, FormParts}
 use Rattle.unify.specs.Binding.{Binding, only_type, only_term, solved_type, solved_term}
 use Rattle.unify.specs.Unification.{Binds, Splits, Unifies, UnifiesForms, UnifiesTerms}
 use Rattle.unify.proofs.Closed.{EachType, EachTerm, Sides, RightSides, of_head_type, of_head_term}
-use Rattle.branch.specs.Instances.{solved, in_order}
+use Rattle.branch.specs.Solved.{solved_binding}
+use Rattle.branch.specs.Instances.{in_order}
+use Rattle.branch.proofs.Lists.{map-source, reverse-has}
 use Rattle.branch.proofs.Inverted.{well_typed_equality, well_typed_left, well_typed_right, well_typed_atom}
 
 -- each binding's metavariable and right side have the property
@@ -20,6 +21,20 @@ module _ (P : Ty → Type 0) (Q : Term → Type 0) where
   BothSides [] = Unit {0}
   BothSides (Binding.of_type m u ∷ bs) = P (Ty.meta m) × P u × BothSides bs
   BothSides (Binding.of_term m k u ∷ bs) = Q (Term.meta m k) × Q u × BothSides bs
+
+  abbrev Both : Binding → Type 0
+  Both (Binding.of_type m u) = P (Ty.meta m) × P u
+  Both (Binding.of_term m k u) = Q (Term.meta m k) × Q u
+
+  first_both : (b : Binding) (bs : List Binding) → BothSides (b ∷ bs) → Both b × BothSides bs
+  first_both (Binding.of_type m u) bs h = ((h.0, h.1), h.2)
+  first_both (Binding.of_term m k u) bs h = ((h.0, h.1), h.2)
+
+  pub member_both : (bs : List Binding) → BothSides bs → (b : Binding) → Contains bs b → Both b
+  member_both [] h b m = absurd (Contains-none b m)
+  member_both (c ∷ bs) h b m =
+      let x = first_both c bs h in
+      elim (Contains-cases c bs b m) [ inl e ↦ subst Both e x.0 | inr i ↦ member_both bs x.1 b i ]
 
   right_of : (bs : List Binding) → BothSides bs → RightSides P Q bs
   right_of [] h = tt
@@ -137,21 +152,14 @@ module _ (P : Parameter → Type 0) where
   EachInBinding (Binding.of_type m u) = P (Parameter.type_meta m) × EachInType P u
   EachInBinding (Binding.of_term m t u) = P (Parameter.meta m t) × EachInTerm P u
 
-  solved_each : (made : List Binding) → EachBound made → (b : Binding) (bs : List Binding) → EachBound (b ∷ bs) → EachInBinding (solved made b)
-  solved_each made h (Binding.of_type m u) bs k = (k.0, solved_type_each made h u k.1)
-  solved_each made h (Binding.of_term m t u) bs k = (k.0.0, solved_term_each made h u k.1)
+  solved_each : (made : List Binding) → EachBound made → (b : Binding) → Both (EachInType P) (EachInTerm P) b → EachInBinding (solved_binding made b)
+  solved_each made h (Binding.of_type m u) k = (k.0, solved_type_each made h u k.1)
+  solved_each made h (Binding.of_term m t u) k = (k.0.0, solved_term_each made h u k.1)
 
-  earlier_each : (b : Binding) (bs : List Binding) → EachBound (b ∷ bs) → EachBound bs
-  earlier_each (Binding.of_type m u) bs k = k.2
-  earlier_each (Binding.of_term m t u) bs k = k.2
-
-  ordered_each : (made : List Binding) → EachBound made → (bs : List Binding) → EachBound bs → (x : Binding) → Contains (in_order made bs) x → EachInBinding x
-  ordered_each made h [] k x m = absurd (Contains-none x m)
-  ordered_each made h (b ∷ bs) k x m =
-      elim (Contains-append_cases (in_order made bs) (solved made b ∷ []) x m) [
-        | inl i ↦ ordered_each made h bs (earlier_each b bs k) x i
-        | inr i ↦ subst EachInBinding (only (solved made b) x i) (solved_each made h b bs k)
-      ]
+  ordered_each : (made : List Binding) → EachBound made → (x : Binding) → Contains (in_order made) x → EachInBinding x
+  ordered_each made h x m =
+      let y = map-source (solved_binding made) (reverse made) x m in
+      subst EachInBinding y.2 (solved_each made h y.0 (member_both (EachInType P) (EachInTerm P) made h y.0 (reverse-has made y.0 y.1)))
 
   types_apart : (ts : Tys) → EachInTypes P ts → EachType (EachInType P) ts
   types_apart Tys.none h = tt
@@ -162,10 +170,10 @@ module _ (P : Parameter → Type 0) where
   terms_apart (Terms.more u us) h = (h.0, terms_apart us h.1)
 
   unified_each : {es : List Equation} {made : List Binding} → Unifies [] es made → Sides (EachInType P) (EachInTerm P) es
-      → (x : Binding) → Contains (in_order made made) x → EachInBinding x
+      → (x : Binding) → Contains (in_order made) x → EachInBinding x
   unified_each {es} {made} u h =
       let b = both_sides (EachInType P) (EachInTerm P) (λ c ts k. types_apart ts k) (λ f ts us k. (types_apart ts k.0, terms_apart us k.1)) u tt h in
-      ordered_each made b made b
+      ordered_each made b
 
   form_parts_each : {f g : Form} {es : List Equation} → FormParts f g es → EachIn P f → EachIn P g → Sides (EachInType P) (EachInTerm P) es
   form_parts_each (FormParts.atoms {ss = ss} {ts = ts} {us = us} {vs = vs} q p) h k =
@@ -175,11 +183,11 @@ module _ (P : Parameter → Type 0) where
 
   -- each binding is of a metavariable of the two sides, to a tree with their parameters
   pub forms_each : {f g : Form} {made : List Binding} → UnifiesForms f g made → EachIn P f → EachIn P g
-      → (x : Binding) → Contains (in_order made made) x → EachInBinding x
+      → (x : Binding) → Contains (in_order made) x → EachInBinding x
   forms_each u h k = unified_each u.2 (form_parts_each u.1 h k)
 
   pub terms_each : {u v : Term} {made : List Binding} → UnifiesTerms u v made → EachInTerm P u → EachInTerm P v
-      → (x : Binding) → Contains (in_order made made) x → EachInBinding x
+      → (x : Binding) → Contains (in_order made) x → EachInBinding x
   terms_each u h k = unified_each u (h, k, tt)
 
 -- Types.
@@ -234,27 +242,20 @@ module _ (symbols : List Symbol) where
   PutsType (Binding.of_type m u) = IsType symbols 0 u
   PutsType (Binding.of_term m t u) = Unit {0}
 
-  solved_puts : (made : List Binding) → Typed made → (b : Binding) (bs : List Binding) → Typed (b ∷ bs) → PutsType (solved made b)
-  solved_puts made h (Binding.of_type m u) bs k = solved_is_type made h u k.1
-  solved_puts made h (Binding.of_term m t u) bs k = tt
+  solved_puts : (made : List Binding) → Typed made → (b : Binding) → Both (IsType symbols 0) IsTyped b → PutsType (solved_binding made b)
+  solved_puts made h (Binding.of_type m u) k = solved_is_type made h u k.1
+  solved_puts made h (Binding.of_term m t u) k = tt
 
-  earlier_typed : (b : Binding) (bs : List Binding) → Typed (b ∷ bs) → Typed bs
-  earlier_typed (Binding.of_type m u) bs k = k.2
-  earlier_typed (Binding.of_term m t u) bs k = k.2
-
-  ordered_puts : (made : List Binding) → Typed made → (bs : List Binding) → Typed bs → (x : Binding) → Contains (in_order made bs) x → PutsType x
-  ordered_puts made h [] k x m = absurd (Contains-none x m)
-  ordered_puts made h (b ∷ bs) k x m =
-      elim (Contains-append_cases (in_order made bs) (solved made b ∷ []) x m) [
-        | inl i ↦ ordered_puts made h bs (earlier_typed b bs k) x i
-        | inr i ↦ subst PutsType (only (solved made b) x i) (solved_puts made h b bs k)
-      ]
+  ordered_puts : (made : List Binding) → Typed made → (x : Binding) → Contains (in_order made) x → PutsType x
+  ordered_puts made h x m =
+      let y = map-source (solved_binding made) (reverse made) x m in
+      subst PutsType y.2 (solved_puts made h y.0 (member_both (IsType symbols 0) IsTyped made h y.0 (reverse-has made y.0 y.1)))
 
   unified_puts : {es : List Equation} {made : List Binding} → Unifies [] es made → Sides (IsType symbols 0) IsTyped es
-      → (x : Binding) → Contains (in_order made made) x → PutsType x
+      → (x : Binding) → Contains (in_order made) x → PutsType x
   unified_puts {es} {made} u h =
       let b = both_sides (IsType symbols 0) IsTyped (λ c ts k. types_typed ts k.1) application_typed u tt h in
-      ordered_puts made b made b
+      ordered_puts made b
 
   form_parts_typed : {f g : Form} {es : List Equation} → FormParts f g es → WellTyped symbols f → WellTyped symbols g → Sides (IsType symbols 0) IsTyped es
   form_parts_typed (FormParts.atoms {ss = ss} {ts = ts} {us = us} {vs = vs} q p) h k =
@@ -269,9 +270,9 @@ module _ (symbols : List Symbol) where
   )
 
   pub forms_put : {f g : Form} {made : List Binding} → UnifiesForms f g made → WellTyped symbols f → WellTyped symbols g
-      → (x : Binding) → Contains (in_order made made) x → PutsType x
+      → (x : Binding) → Contains (in_order made) x → PutsType x
   forms_put u h k = unified_puts u.2 (form_parts_typed u.1 h k)
 
   pub terms_put : {u v : Term} {made : List Binding} (t : Ty) → UnifiesTerms u v made → HasType symbols u t → HasType symbols v t
-      → (x : Binding) → Contains (in_order made made) x → PutsType x
+      → (x : Binding) → Contains (in_order made) x → PutsType x
   terms_put t u h k = unified_puts u ((t, h), (t, k), tt)

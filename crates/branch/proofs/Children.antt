@@ -122,12 +122,12 @@ unequal_each s sig P c p d ts us vs h w x y =
 -- the facts of the bindings of sides on the branch
 module _ (s : Setting) (b : List Form) (typed : (f : Form) → Contains b f → WellTyped s.symbols f) where
   pub solved_each : (P : Parameter → Type 0) → ((f : Form) → Contains b f → EachIn P f) → (made : List Binding) → Solves b made
-      → (x : Binding) → Contains (in_order made made) x → EachInBinding P x
+      → (x : Binding) → Contains (in_order made) x → EachInBinding P x
   solved_each P e made (Solves.of_pair f g h k u) x m = forms_each P u (e f h) (e (Form.negation g) k) x m
   solved_each P e made (Solves.of_swapped f g h k u) x m = forms_each P u (e (Form.negation f) h) (e g k) x m
   solved_each P e made (Solves.of_sides t v w h u) x m = let d = e (differ t v w) h in terms_each P u d.1 d.2 x m
 
-  pub solved_types : (made : List Binding) → Solves b made → (x : Binding) → Contains (in_order made made) x → PutsType s.symbols x
+  pub solved_types : (made : List Binding) → Solves b made → (x : Binding) → Contains (in_order made) x → PutsType s.symbols x
   solved_types made (Solves.of_pair f g h k u) x m = forms_put s.symbols u (typed f h) (well_typed_negation s.symbols (typed (Form.negation g) k)) x m
   solved_types made (Solves.of_swapped f g h k u) x m = forms_put s.symbols u (well_typed_negation s.symbols (typed (Form.negation f) h)) (typed g k) x m
   solved_types made (Solves.of_sides t v w h u) x m =
@@ -161,7 +161,7 @@ module _ (s : Setting) (sound : IsSound s) (table : List Form) (above : List Abo
   each_on_branch f m = is.introduced f (is.within f m)
 
   -- the formula of an instance is a gamma formula of the branch, and what is put for its metavariable fits
-  pub term_instance : (n : ℕ) (t : Ty) (u : Term) (f : Form) (q : Quantified) (made : List Binding) → Solves b made → Contains (in_order made made) (Binding.of_term n t u)
+  pub term_instance : (n : ℕ) (t : Ty) (u : Term) (f : Form) (q : Quantified) (made : List Binding) → Solves b made → Contains (in_order made) (Binding.of_term n t u)
       → HasType s.symbols u t → slice_get table n ≡ Some f → quantified f ≡ Some q → IsInstance s b f q (Opening.of_term u)
   term_instance n t u f q made h m i e j =
       let x = solved_each s b on_branch (IsIntroduced s table above b) each_on_branch made h (Binding.of_term n t u) m in
@@ -170,7 +170,7 @@ module _ (s : Setting) (sound : IsSound s) (table : List Form) (above : List Abo
       let k = subst (λ c. Fits s.symbols c (Opening.of_term u)) (sym z.1) i in
       record { stands = y.stands; fits = k; derives = λ gamma. instance_derives s gamma (shape f q j) z.0 (Opening.of_term u) k }
 
-  pub type_instance : (n : ℕ) (u : Ty) (f : Form) (q : Quantified) (made : List Binding) → Solves b made → Contains (in_order made made) (Binding.of_type n u)
+  pub type_instance : (n : ℕ) (u : Ty) (f : Form) (q : Quantified) (made : List Binding) → Solves b made → Contains (in_order made) (Binding.of_type n u)
       → slice_get table n ≡ Some f → quantified f ≡ Some q → IsInstance s b f q (Opening.of_type u)
   type_instance n u f q made h m e j =
       let x = solved_each s b on_branch (IsIntroduced s table above b) each_on_branch made h (Binding.of_type n u) m in

@@ -1,19 +1,22 @@
 -- A branch has one list of raw offers and one list of offers.
-use Rattle.std.proofs.Common.{◌≡◌, ℕ, Bool, refl, ap, sym, subst, ◌∙◌, arith, List, [], ◌∷◌, ◌++◌, length, Contains, Option, None, Some, cond, filter, slice_get}
-use Rattle.zm_logic.specs.Tree.{Term, Form, Opening, differ}
+use Rattle.std.proofs.Common.{◌≡◌, ℕ, ◌<◌, ◌≤◌, Bool, refl, ap, sym, subst, ◌∙◌, arith, List, [], ◌∷◌, ◌++◌, length, Contains, Option, None, Some, cond, filter, reverse, slice_get}
+use Rattle.std.proofs.lemmas.List.Elements.{All-contains, Contains-append_right}
+use Rattle.zm_logic.specs.Tree.{Term, Form, Side, differ}
 use Rattle.zm_logic.specs.Typing.{WellTyped}
 use Rattle.zm_logic.proofs.Sames.{Contains-here, Contains-there}
 use Rattle.unify.specs.Equation.{Equation}
-use Rattle.unify.specs.Binding.{Binding}
+use Rattle.unify.specs.Binding.{Binding, unifier}
 use Rattle.unify.specs.Unification.{UnifiesForms, UnifiesTerms}
-use Rattle.unify.proofs.Lawful.{bindings_are_determined, unifiers_of_forms_are_determined}
+use Rattle.unify.proofs.Unifier.{put_unifier_term}
+use Rattle.unify.proofs.Lawful.{bindings_solve, forms_are_unified, bindings_are_determined, unifiers_of_forms_are_determined}
 use Rattle.branch.specs.Setting.{Setting}
 use Rattle.branch.specs.Sound.{IsSound}
 use Rattle.branch.specs.Normal.{Fault, Made, MakesAll}
 use Rattle.branch.specs.RawOffers.{Act, Raw}
-use Rattle.branch.specs.Instances.{Instances, in_order, instance_of}
+use Rattle.branch.specs.Solved.{solved_depth, name_of, AreBounded, IsFirstDeepBinding}
+use Rattle.branch.specs.Instances.{InstancesOf, instances, in_order}
 use Rattle.branch.specs.Equality.{value_steps, pair_steps}
-use Rattle.branch.specs.Pairs.{opposites, first_deep}
+use Rattle.branch.specs.Pairs.{Opposites, opposites, FormsDiffer, TermsDiffer}
 use Rattle.branch.specs.BranchOffers.{Kind, Entry, entries, own_entries, instance_entries, BindingEntries, SingleEntries, PairEntries, PairsWith, EntriesFrom, has_equality, AreRawOffers}
 use Rattle.branch.specs.Offers.{Child, Offer, offer_of, MakesForm, MakesChild, MakesOffer, is_useful, AreOffers, IsOfferAt}
 use Rattle.branch.specs.Introduced.{Above, HasFacts}
@@ -26,14 +29,6 @@ use Rattle.branch.proofs.Grows.{all_of, all_in}
 -- Raw offers.
 
 module _ (s : Setting) (table : List Form) where
-  one_list : {bs : List Binding} {rs ts : List Raw} → Instances s.symbols table bs rs → Instances s.symbols table bs ts → rs ≡ ts
-  one_list (Instances.none) (Instances.none) = refl
-  one_list (Instances.of_type m u x) (Instances.of_type n v y) = ap (λ z. instance_of (slice_get table m) (Opening.of_type u) ++ z) (one_list x y)
-  one_list (Instances.of_term m t u h x) (Instances.of_term n r v k y) = ap (λ z. instance_of (slice_get table m) (Opening.of_term u) ++ z) (one_list x y)
-  one_list (Instances.of_term m t u h x) (Instances.ill_typed n r v k y) = absurd (k h)
-  one_list (Instances.ill_typed m t u h x) (Instances.of_term n r v k y) = absurd (h k)
-  one_list (Instances.ill_typed m t u h x) (Instances.ill_typed n r v k y) = one_list x y
-
   abbrev IsOne : (List Binding → Type 0) → Type 0
   IsOne Unified = (a b : List Binding) → Unified a → Unified b → a ≡ b
 
@@ -43,21 +38,50 @@ module _ (s : Setting) (table : List Form) where
   same_side : {A : Type 0} (o : Option A) (x y : A) → o ≡ Some x → o ≡ Some y → x ≡ y
   same_side o x y e h = let i : Some x ≡ Some y = sym e ∙ h in cc
 
-  one_binding_entries : (Unified : List Binding → Type 0) → IsOne Unified → {j : ℕ} {i : Option ℕ} {xs ys : List Entry}
-      → BindingEntries s table Unified j i xs → BindingEntries s table Unified j i ys → xs ≡ ys
-  one_binding_entries U one (BindingEntries.apart n) (BindingEntries.apart m) = refl
-  one_binding_entries U one (BindingEntries.apart n) (BindingEntries.bound made u d h) = absurd (n made u)
-  one_binding_entries U one (BindingEntries.apart n) (BindingEntries.too_deep made at u d) = absurd (n made u)
-  one_binding_entries U one (BindingEntries.bound made u d h) (BindingEntries.apart n) = absurd (n made u)
-  one_binding_entries U one {j} {i} (BindingEntries.bound made u d h) (BindingEntries.bound {rs = rs} also v e k) =
-      ap (λ z. instance_entries j i z) (one_list h (subst (λ z. Instances s.symbols table (in_order z z) rs) (one also made v u) k))
-  one_binding_entries U one (BindingEntries.bound made u d h) (BindingEntries.too_deep also at v e) =
-      absurd (some_and_none (first_deep made made) at d (subst (λ z. first_deep z z ≡ Some at) (one also made v u) e))
-  one_binding_entries U one (BindingEntries.too_deep made at u d) (BindingEntries.apart n) = absurd (n made u)
-  one_binding_entries U one (BindingEntries.too_deep made at u d) (BindingEntries.bound also v e k) =
-      absurd (some_and_none (first_deep made made) at (subst (λ z. first_deep z z ≡ None) (one also made v u) e) d)
-  one_binding_entries U one (BindingEntries.too_deep made at u d) (BindingEntries.too_deep also to v e) =
-      ap (λ z. Entry.unbound z ∷ []) (same_side (first_deep made made) at to d (subst (λ z. first_deep z z ≡ Some to) (one also made v u) e))
+  list_is : (x y : Binding) (xs ys : List Binding) → x ∷ xs ≡ y ∷ ys → (x ≡ y) × (xs ≡ ys)
+  list_is x y xs ys e = (cc, cc)
+
+  -- the first binding that is too deep
+  one_first : (made : List Binding) (xs ys : List Binding) (x y : Binding) (us vs : List Binding) → xs ++ x ∷ us ≡ ys ++ y ∷ vs
+      → ((c : Binding) → Contains xs c → solved_depth made c ≤ 2000) → ((c : Binding) → Contains ys c → solved_depth made c ≤ 2000)
+      → 2000 < solved_depth made x → 2000 < solved_depth made y → x ≡ y
+  one_first made [] [] x y us vs e h k d c = (list_is x y us vs e).0
+  one_first made [] (w ∷ ys) x y us vs e h k d c =
+      let i = (list_is x w us (ys ++ y ∷ vs) e).0 in
+      let l = subst (λ z. solved_depth made z ≤ 2000) (sym i) (k w (Contains-here w ys)) in absurd (omega arith)
+  one_first made (z ∷ xs) [] x y us vs e h k d c =
+      let i = (list_is z y (xs ++ x ∷ us) vs e).0 in
+      let l = subst (λ w. solved_depth made w ≤ 2000) i (h z (Contains-here z xs)) in absurd (omega arith)
+  one_first made (z ∷ xs) (w ∷ ys) x y us vs e h k d c =
+      one_first made xs ys x y us vs (list_is z w (xs ++ x ∷ us) (ys ++ y ∷ vs) e).1
+      (λ a m. h a (Contains-there z xs a m)) (λ a m. k a (Contains-there w ys a m)) d c
+
+  one_deep : (made : List Binding) (u v : Term) → IsFirstDeepBinding made u → IsFirstDeepBinding made v → u ≡ v
+  one_deep made u v x y =
+      let P : Binding → Type 0 = λ c. solved_depth made c ≤ 2000 in
+      let e = one_first made x.before y.before x.binding y.binding x.after y.after (sym x.order ∙ y.order)
+      (λ c m. All-contains P x.before c x.bounded m) (λ c m. All-contains P y.before c y.bounded m) x.deep y.deep in
+      sym x.named ∙ ap name_of e ∙ y.named
+
+  not_bounded : (made : List Binding) (u : Term) → AreBounded made → IsFirstDeepBinding made u → ⊥
+  not_bounded made u h x =
+      let m : Contains (reverse made) x.binding = subst (λ z. Contains z x.binding) (sym x.order) (Contains-append_right x.before (x.binding ∷ x.after) x.binding (Contains-here x.binding x.after)) in
+      let l = All-contains (λ c. solved_depth made c ≤ 2000) (reverse made) x.binding h m in
+      let d = x.deep in absurd (omega arith)
+
+  module _ (Unifies : List Binding → Type 0) (Differ : Type 0) (one : IsOne Unifies) (apart : Differ → (made : List Binding) → Unifies made → ⊥) where
+    one_instances : {rs ts : List Raw} → InstancesOf s.symbols table Unifies Differ rs → InstancesOf s.symbols table Unifies Differ ts → rs ≡ ts
+    one_instances (InstancesOf.unified made u) (InstancesOf.unified also v) = ap (λ z. instances s.symbols table (in_order z)) (one made also u v)
+    one_instances (InstancesOf.unified made u) (InstancesOf.apart d) = absurd (apart d made u)
+    one_instances (InstancesOf.apart d) (InstancesOf.unified made u) = absurd (apart d made u)
+    one_instances (InstancesOf.apart d) (InstancesOf.apart e) = refl
+
+    one_binding_entries : {j : ℕ} {i : Option ℕ} {xs ys : List Entry} → BindingEntries s table Unifies Differ j i xs → BindingEntries s table Unifies Differ j i ys → xs ≡ ys
+    one_binding_entries {j} {i} (BindingEntries.listed h x) (BindingEntries.listed k y) = ap (λ z. instance_entries j i z) (one_instances x y)
+    one_binding_entries (BindingEntries.listed h x) (BindingEntries.too_deep made u unified d) = absurd (not_bounded made u (h made unified) d)
+    one_binding_entries (BindingEntries.too_deep made u unified d) (BindingEntries.listed h x) = absurd (not_bounded made u (h made unified) d)
+    one_binding_entries (BindingEntries.too_deep made u unified d) (BindingEntries.too_deep also v united e) =
+        ap (λ z. Entry.unbound (Side.of_term z) ∷ []) (one_deep made u v d (subst (λ z. IsFirstDeepBinding z v) (one also made united unified) e))
 
   one_of_terms : (u v : Term) → IsOne (UnifiesTerms u v)
   one_of_terms u v a b h k = bindings_are_determined [] (Equation.of_terms u v ∷ []) a b h k
@@ -65,23 +89,30 @@ module _ (s : Setting) (table : List Form) where
   one_of_forms : (f g : Form) → IsOne (UnifiesForms f g)
   one_of_forms f g a b h k = unifiers_of_forms_are_determined f g a b h k
 
+  terms_apart : (u v : Term) → TermsDiffer u v → (made : List Binding) → UnifiesTerms u v made → ⊥
+  terms_apart u v d made h =
+      d (unifier made) (put_unifier_term made u ∙ (bindings_solve (Equation.of_terms u v ∷ []) made h).0 ∙ sym (put_unifier_term made v))
+
+  forms_apart : (f g : Form) → FormsDiffer f g → (made : List Binding) → UnifiesForms f g made → ⊥
+  forms_apart f g d made h = d (unifier made) (forms_are_unified f g made h)
+
   module _ (equality : Bool) where
     one_single : (j : ℕ) {f : Form} {xs ys : List Entry} → SingleEntries s table equality j f xs → SingleEntries s table equality j f ys → xs ≡ ys
     one_single j (SingleEntries.inequation t u v h) (SingleEntries.inequation r x y k) =
         ap (λ z. z ++ entries Kind.equality (differ t u v) j None (cond equality (value_steps s.symbols (differ t u v) u v) []))
-        (one_binding_entries (UnifiesTerms u v) (one_of_terms u v) h k)
+        (one_binding_entries (UnifiesTerms u v) (TermsDiffer u v) (one_of_terms u v) (terms_apart u v) h k)
     one_single j (SingleEntries.inequation t u v h) (SingleEntries.other n) = absurd (n t u v refl)
     one_single j (SingleEntries.other n) (SingleEntries.inequation t u v h) = absurd (n t u v refl)
     one_single j (SingleEntries.other n) (SingleEntries.other m) = refl
 
     one_pair : (j i : ℕ) (g f : Form) {xs ys : List Entry} → PairEntries s table equality j i g f xs → PairEntries s table equality j i g f ys → xs ≡ ys
-    one_pair j i g f (PairEntries.apart e) (PairEntries.apart h) = refl
-    one_pair j i g f (PairEntries.apart e) (PairEntries.opposed o h x) = absurd (some_and_none (opposites g f) o e h)
-    one_pair j i g f (PairEntries.opposed o h x) (PairEntries.apart e) = absurd (some_and_none (opposites g f) o e h)
+    one_pair j i g f (PairEntries.none e) (PairEntries.none h) = refl
+    one_pair j i g f (PairEntries.none e) (PairEntries.opposed o h x) = absurd (some_and_none (opposites g f) o e h)
+    one_pair j i g f (PairEntries.opposed o h x) (PairEntries.none e) = absurd (some_and_none (opposites g f) o e h)
     one_pair j i g f (PairEntries.opposed {xs = xs} o h x) (PairEntries.opposed {xs = ys} p k y) =
         let e = same_side (opposites g f) p o k h in
-        let z = one_binding_entries (UnifiesForms o.earlier o.later) (one_of_forms o.earlier o.later) x
-        (subst (λ q. BindingEntries s table (UnifiesForms q.earlier q.later) j (Some i) ys) e y) in
+        let z = one_binding_entries (UnifiesForms o.left o.right) (FormsDiffer o.left o.right) (one_of_forms o.left o.right) (forms_apart o.left o.right) x
+        (subst (λ q. BindingEntries s table (UnifiesForms q.left q.right) (FormsDiffer q.left q.right) j (Some i) ys) e y) in
         ap (λ l. l ++ entries Kind.equality f j (Some i) (cond equality (pair_steps s.symbols o.plain o.denied) [])) z
         ∙ ap (λ q. ys ++ entries Kind.equality f j (Some i) (cond equality (pair_steps s.symbols q.plain q.denied) [])) (sym e)
 

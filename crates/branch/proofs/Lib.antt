@@ -1,4 +1,5 @@
 pub mod Lists
+pub mod Typed
 pub mod Branches
 pub mod Inverted
 pub mod Arguments

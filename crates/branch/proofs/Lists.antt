@@ -1,8 +1,9 @@
 -- What stands in a list.
-use Rattle.std.proofs.Common.{◌≡◌, ℕ, zero, suc, Bool, true, false, cond, refl, ap, sym, subst, ◌∙◌, List, [], ◌∷◌, ◌⊎◌, inl, inr, Contains, Option, None, Some, filter, flat_map, slice_get}
+use Rattle.std.proofs.Common.{◌≡◌, ℕ, zero, suc, Bool, true, false, cond, refl, ap, sym, subst, ◌∙◌, List, [], ◌∷◌, ◌⊎◌, inl, inr, Contains, Option, None, Some, filter, flat_map, map, reverse, slice_get}
 use Rattle.std.specs.Option.{option_or}
+use Rattle.std.proofs.lemmas.List.{reverse-append}
 use Rattle.std.proofs.lemmas.List.Elements.{Contains-append_cases}
-use Rattle.zm_logic.proofs.Sames.{Contains-here, Contains-there, Contains-cases, Contains-none}
+use Rattle.zm_logic.proofs.Sames.{Contains-here, Contains-there, Contains-cases, Contains-none, only}
 
 pub get-contains : {A : Type 0} (xs : List A) (k : ℕ) (x : A) → slice_get xs k ≡ Some x → Contains xs x
 get-contains [] k x e = cc
@@ -57,4 +58,20 @@ filter-has {A} p (y ∷ ys) x h e = go (p y) refl (λ i. filter-has p ys x i e)
     go false q rest = elim (Contains-cases y ys x h) [
       | inl i ↦ absurd (let z : p x ≡ false = ap p (sym i) ∙ q in cc)
       | inr i ↦ rest i
+    ]
+
+pub map-source : {A B : Type 0} (f : A → B) (xs : List A) (y : B) → Contains (map f xs) y → (x : A) × Contains xs x × (f x ≡ y)
+map-source f [] y h = absurd (Contains-none y h)
+map-source f (x ∷ xs) y h = elim (Contains-cases (f x) (map f xs) y h) [
+  | inl e ↦ (x, Contains-here x xs, e)
+  | inr i ↦ let s = map-source f xs y i in (s.0, Contains-there x xs s.0 s.1, s.2)
+]
+
+pub reverse-has : {A : Type 0} (xs : List A) (x : A) → Contains (reverse xs) x → Contains xs x
+reverse-has [] x h = h
+reverse-has {A} (y ∷ ys) x h =
+    let P : List A → Type 0 = λ zs. Contains zs x in
+    elim (Contains-append_cases (reverse ys) (y ∷ []) x (subst P (reverse-append (y ∷ []) ys) h)) [
+      | inl i ↦ Contains-there y ys x (reverse-has ys x i)
+      | inr i ↦ let Q : A → Type 0 = λ z. Contains (y ∷ ys) z in subst Q (only y x i) (Contains-here y ys)
     ]

@@ -2,7 +2,7 @@
 use Rattle.std.proofs.Common.{◌≡◌, ◌==◌, ℕ, Bool, true, false, ◌&&◌, cond, refl, sym, subst, List, [], ◌∷◌, ◌++◌, inl, inr, Contains, Option, None, Some, slice_get, length}
 use Rattle.std.proofs.lemmas.Bool.{eqb-true}
 use Rattle.std.proofs.lemmas.List.Elements.{Contains-append_cases}
-use Rattle.zm_logic.specs.Tree.{Ty, Term, Form, Opening, differ}
+use Rattle.zm_logic.specs.Tree.{Ty, Term, Form, Opening, Side, differ}
 use Rattle.zm_logic.specs.Typing.{symbol_at}
 use Rattle.zm_logic.specs.Same.{same_type, same_types}
 use Rattle.zm_logic.proofs.Sames.{Contains-here, Contains-there, Contains-cases, Contains-none, both_true, only, same_type-true, same_types-true}
@@ -10,11 +10,13 @@ use Rattle.unify.specs.Binding.{Binding}
 use Rattle.unify.specs.Unification.{UnifiesForms, UnifiesTerms}
 use Rattle.branch.specs.Setting.{Setting}
 use Rattle.branch.specs.RawOffers.{Raw, Quantified, on, on_with, one, split, split_offers, quantified, own_part, number_of, at_part, opened, opened_offers}
-use Rattle.branch.specs.Instances.{Instances, in_order, instance_of, opened_where}
+use Rattle.branch.specs.Typed.{has_type}
+use Rattle.branch.specs.Instances.{InstancesOf, instances, in_order, instance_of, opened_where}
 use Rattle.branch.specs.Equality.{unequal, has_arguments, on_pair, step, value_steps, pair_steps}
-use Rattle.branch.specs.Pairs.{Opposites, opposites}
+use Rattle.branch.specs.Pairs.{Opposites, alike, opposites, FormsDiffer, TermsDiffer}
 use Rattle.branch.specs.BranchOffers.{Kind, Entry, entries, split_kind, opened_kind, opened_entries, own_entries, instance_entries, BindingEntries, SingleEntries, PairEntries, PairsWith, EntriesFrom, has_equality, AreRawOffers}
 use Rattle.branch.specs.Offered.{Solves, Offered}
+use Rattle.branch.proofs.Typed.{term_true}
 
 -- a raw offer is one by the rules, if it isn't one for bindings that are too deep
 abbrev pub IsOffered : Setting → List Form → List Form → Entry → Type 0
@@ -95,26 +97,29 @@ module _ (s : Setting) (table b : List Form) where
       go None e = no_raw Kind.instance
       go (Some f) e = at_quantified f w (λ q i. h f q e i)
 
-  instances_offered : (made : List Binding) → Solves b made → {bs : List Binding} {rs : List Raw} → Instances s.symbols table bs rs
-      → ((x : Binding) → Contains bs x → Contains (in_order made made) x) → AllRaw Kind.instance rs
-  instances_offered made h (Instances.none) w = no_raw Kind.instance
-  instances_offered made h (Instances.of_type {bs = bs} {rs = rs} m u rest) w =
-      both_raw Kind.instance (instance_of (slice_get table m) (Opening.of_type u)) rs
+  instances_offered : (made : List Binding) → Solves b made → (bs : List Binding) → ((x : Binding) → Contains bs x → Contains (in_order made) x)
+      → AllRaw Kind.instance (instances s.symbols table bs)
+  instances_offered made h [] w = no_raw Kind.instance
+  instances_offered made h (Binding.of_type m u ∷ bs) w =
+      both_raw Kind.instance (instance_of (slice_get table m) (Opening.of_type u)) (instances s.symbols table bs)
       (at_number m (Opening.of_type u) (λ f q e i. Offered.at_type m u f q made h (w (Binding.of_type m u) (Contains-here (Binding.of_type m u) bs)) e i))
-      (instances_offered made h rest (λ x n. w x (Contains-there (Binding.of_type m u) bs x n)))
-  instances_offered made h (Instances.of_term {bs = bs} {rs = rs} m t u typed rest) w =
-      both_raw Kind.instance (instance_of (slice_get table m) (Opening.of_term u)) rs
-      (at_number m (Opening.of_term u) (λ f q e i. Offered.at_term m t u f q made h (w (Binding.of_term m t u) (Contains-here (Binding.of_term m t u) bs)) typed e i))
-      (instances_offered made h rest (λ x n. w x (Contains-there (Binding.of_term m t u) bs x n)))
-  instances_offered made h (Instances.ill_typed {bs = bs} m t u typed rest) w =
-      instances_offered made h rest (λ x n. w x (Contains-there (Binding.of_term m t u) bs x n))
+      (instances_offered made h bs (λ x n. w x (Contains-there (Binding.of_type m u) bs x n)))
+  instances_offered made h (Binding.of_term m t u ∷ bs) w =
+      both_raw Kind.instance (cond (has_type s.symbols u t) (instance_of (slice_get table m) (Opening.of_term u)) []) (instances s.symbols table bs)
+      (if_raw Kind.instance (has_type s.symbols u t) (instance_of (slice_get table m) (Opening.of_term u))
+      (λ y. at_number m (Opening.of_term u)
+      (λ f q e i. Offered.at_term m t u f q made h (w (Binding.of_term m t u) (Contains-here (Binding.of_term m t u) bs)) (term_true s.symbols u t y) e i)))
+      (instances_offered made h bs (λ x n. w x (Contains-there (Binding.of_term m t u) bs x n)))
 
-  bindings_offered : (Unified : List Binding → Type 0) → ((made : List Binding) → Unified made → Solves b made) → {j : ℕ} {i : Option ℕ} {xs : List Entry}
-      → BindingEntries s table Unified j i xs → AllOffered xs
-  bindings_offered Unified h (BindingEntries.apart n) = none_offered
-  bindings_offered Unified h {j} {i} (BindingEntries.bound {rs = rs} made u d instances) =
-      instances_placed j i rs (instances_offered made (h made u) instances (λ x m. m))
-  bindings_offered Unified h (BindingEntries.too_deep made at u d) = λ x m. subst (IsOffered s table b) (only (Entry.unbound at) x m) tt
+  of_instances : (Unifies : List Binding → Type 0) (Differ : Type 0) → ((made : List Binding) → Unifies made → Solves b made) → {rs : List Raw}
+      → InstancesOf s.symbols table Unifies Differ rs → AllRaw Kind.instance rs
+  of_instances Unifies Differ h (InstancesOf.unified made u) = instances_offered made (h made u) (in_order made) (λ x m. m)
+  of_instances Unifies Differ h (InstancesOf.apart d) = no_raw Kind.instance
+
+  bindings_offered : (Unifies : List Binding → Type 0) (Differ : Type 0) → ((made : List Binding) → Unifies made → Solves b made) → {j : ℕ} {i : Option ℕ} {xs : List Entry}
+      → BindingEntries s table Unifies Differ j i xs → AllOffered xs
+  bindings_offered Unifies Differ h {j} {i} (BindingEntries.listed {rs = rs} bounded x) = instances_placed j i rs (of_instances Unifies Differ h x)
+  bindings_offered Unifies Differ h (BindingEntries.too_deep made u unified d) = λ x m. subst (IsOffered s table b) (only (Entry.unbound (Side.of_term u)) x m) tt
 
   values_offered : (t : Ty) (u v : Term) → Contains b (differ t u v) → AllRaw Kind.equality (value_steps s.symbols (differ t u v) u v)
   values_offered t (Term.app f ts us) (Term.app g rs vs) h =
@@ -153,18 +158,22 @@ module _ (s : Setting) (table b : List Form) where
   record IsOpposed (o : Opposites) : Type 0 where
     plain : Contains b o.plain
     denied : Contains b (Form.negation o.denied)
-    solves : (made : List Binding) → UnifiesForms o.earlier o.later made → Solves b made
+    solves : (made : List Binding) → UnifiesForms o.left o.right made → Solves b made
 
   opposites_are : (x y : Opposites) → Some x ≡ Some y → x ≡ y
   opposites_are x y e = cc
 
+  if_alike : (v : Bool) (x o : Opposites) → cond v (Some x) None ≡ Some o → x ≡ o
+  if_alike true x o e = opposites_are x o e
+  if_alike false x o e = cc
+
   opposed : (g f : Form) (o : Opposites) → opposites g f ≡ Some o → Contains b g → Contains b f → IsOpposed o
   opposed (Form.negation g) (Form.negation f) o e h k = cc
   opposed (Form.negation g) f o e h k =
-      subst IsOpposed (opposites_are (record { plain = f; denied = g; earlier = g; later = f }) o e)
+      subst IsOpposed (if_alike (alike g f) (record { plain = f; denied = g; left = g; right = f }) o e)
       (record { plain = k; denied = h; solves = λ made u. Solves.of_swapped g f h k u })
   opposed g (Form.negation f) o e h k =
-      subst IsOpposed (opposites_are (record { plain = g; denied = f; earlier = g; later = f }) o e)
+      subst IsOpposed (if_alike (alike g f) (record { plain = g; denied = f; left = g; right = f }) o e)
       (record { plain = h; denied = k; solves = λ made u. Solves.of_pair g f h k u })
   opposed g f o e h k = cc
 
@@ -174,16 +183,16 @@ module _ (s : Setting) (table b : List Form) where
   single_offered : (equality : Bool) (j : ℕ) {f : Form} {xs : List Entry} → SingleEntries s table equality j f xs → Contains b f → AllOffered xs
   single_offered v j (SingleEntries.inequation {xs = xs} t x y h) m =
       both_offered xs (entries Kind.equality (differ t x y) j None (cond v (value_steps s.symbols (differ t x y) x y) []))
-      (bindings_offered (UnifiesTerms x y) (λ made u. Solves.of_sides t x y m u) h)
+      (bindings_offered (UnifiesTerms x y) (TermsDiffer x y) (λ made u. Solves.of_sides t x y m u) h)
       (if_equality Kind.equality (differ t x y) j None v (value_steps s.symbols (differ t x y) x y) (values_offered t x y m))
   single_offered v j (SingleEntries.other n) m = none_offered
 
   pair_offered : (equality : Bool) (j i : ℕ) (g f : Form) {xs : List Entry} → PairEntries s table equality j i g f xs → Contains b g → Contains b f → AllOffered xs
-  pair_offered v j i g f (PairEntries.apart e) h k = none_offered
+  pair_offered v j i g f (PairEntries.none e) h k = none_offered
   pair_offered v j i g f (PairEntries.opposed {xs = xs} o e entered) h k =
       let x = opposed g f o e h k in
       both_offered xs (entries Kind.equality f j (Some i) (cond v (pair_steps s.symbols o.plain o.denied) []))
-      (bindings_offered (UnifiesForms o.earlier o.later) x.solves entered)
+      (bindings_offered (UnifiesForms o.left o.right) (FormsDiffer o.left o.right) x.solves entered)
       (if_equality Kind.equality f j (Some i) v (pair_steps s.symbols o.plain o.denied) (pairs_offered o.plain o.denied x.plain x.denied))
 
   with_offered : (equality : Bool) (j : ℕ) (f : Form) {i : ℕ} {gs : List Form} {xs : List Entry} → PairsWith s table equality j f i gs xs

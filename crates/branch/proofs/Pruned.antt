@@ -33,11 +33,11 @@ module _ (n : ℕ) where
       → EntriesFrom s [] false [] (r_or_t ∷ u_and_not_u ∷ fs) (Entry.offer splits ∷ Entry.offer joined ∷ [])
   behind fs h =
       EntriesFrom.more (SingleEntries.other (λ t x y e. cc)) PairsWith.none
-      (EntriesFrom.more (SingleEntries.other (λ t x y e. cc)) (PairsWith.more (PairEntries.apart refl) PairsWith.none) h)
+      (EntriesFrom.more (SingleEntries.other (λ t x y e. cc)) (PairsWith.more (PairEntries.none refl) PairsWith.none) h)
 
   after_r : EntriesFrom s [] false (r_or_t ∷ u_and_not_u ∷ []) (letter 1 ∷ []) []
   after_r =
-      EntriesFrom.more (SingleEntries.other (λ t x y e. cc)) (PairsWith.more (PairEntries.apart refl) (PairsWith.more (PairEntries.apart refl) PairsWith.none)) EntriesFrom.none
+      EntriesFrom.more (SingleEntries.other (λ t x y e. cc)) (PairsWith.more (PairEntries.none refl) (PairsWith.more (PairEntries.none refl) PairsWith.none)) EntriesFrom.none
 
   abbrev split : Offer
   split = offer_of splits (record { raw = one (letter 1); normal = one (letter 1) } ∷ child (letter 2))

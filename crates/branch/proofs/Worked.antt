@@ -1,17 +1,19 @@
 -- The worked examples, by their rules.
-use Rattle.std.proofs.Common.{◌≡◌, ◌≤◌, ℕ, Bool, true, false, refl, arith, List, [], ◌∷◌, None, Some, Option, filter}
+use Rattle.std.proofs.Common.{◌≡◌, ◌≤◌, ℕ, zero, suc, Bool, true, false, refl, subst, arith, List, [], ◌∷◌, None, Some, Option, filter}
 use Rattle.std.specs.Prelude.{codes}
 use Rattle.zm_logic.specs.Tree.{Ty, Tys, Term, Terms, Form, Opening, Symbol, differ}
 use Rattle.zm_logic.specs.Measure.{depth}
 use Rattle.zm_logic.specs.Typing.{individual, individuals}
 use Rattle.unify.specs.Equation.{Equation, TypeParts, TermParts, FormParts}
-use Rattle.unify.specs.Binding.{Binding}
-use Rattle.unify.specs.Unification.{AreSame, Binds, Splits, Unifies, UnifiesForms}
-use Rattle.unify.proofs.Determined.{one_form_parts}
+use Rattle.unify.specs.Binding.{Binding, unifier}
+use Rattle.unify.specs.Unification.{Binds, Unifies, UnifiesForms}
+use Rattle.unify.proofs.Lawful.{forms_are_unified, unifiers_of_forms_are_determined}
 use Rattle.branch.specs.Setting.{Setting}
 use Rattle.branch.specs.Normal.{Made, MakesAll}
 use Rattle.branch.specs.RawOffers.{Act, on_with, one}
-use Rattle.branch.specs.Instances.{Instances}
+use Rattle.branch.specs.Solved.{AreBounded}
+use Rattle.branch.specs.Instances.{InstancesOf}
+use Rattle.branch.specs.Pairs.{FormsDiffer}
 use Rattle.branch.specs.Equality.{on_pair}
 use Rattle.branch.specs.BranchOffers.{Kind, Placed, Entry, BindingEntries, SingleEntries, PairEntries, PairsWith, EntriesFrom, AreRawOffers}
 use Rattle.branch.specs.Offers.{Child, Offer, offer_of, MakesForm, MakesChild, MakesOffer, is_useful, IsOfferAt}
@@ -47,13 +49,9 @@ module _ (symbols : List Symbol) (n : ℕ) (v : Bool) (table branch : List Form)
     same_children = refl;
   }
 
-no_parts_of_exists : (f g : Form) (es : List Equation) → FormParts f g es → f ≡ some_p → ⊥
-no_parts_of_exists f g es (FormParts.atoms x y) e = cc
-no_parts_of_exists f g es (FormParts.equalities) e = cc
-
-no_parts_of_for_all : (f g : Form) (es : List Equation) → FormParts f g es → f ≡ no_p → ⊥
-no_parts_of_for_all f g es (FormParts.atoms x y) e = cc
-no_parts_of_for_all f g es (FormParts.equalities) e = cc
+-- where one list of bindings is the unifier, and is bounded, every unifier is
+one_bounded : (f g : Form) (made : List Binding) → UnifiesForms f g made → AreBounded made → (also : List Binding) → UnifiesForms f g also → AreBounded also
+one_bounded f g made u h also v = subst AreBounded (unifiers_of_forms_are_determined f g made also u v) h
 
 -- Over terms.
 
@@ -78,22 +76,12 @@ module _ (n : ℕ) (v : Bool) where
       → EntriesFrom s table false [] (some_p ∷ no_p ∷ fs) (Entry.offer delta ∷ Entry.offer gamma ∷ es)
   behind fs es h =
       EntriesFrom.more (SingleEntries.other (λ t x y e. cc)) PairsWith.none
-      (EntriesFrom.more (SingleEntries.other (λ t x y e. cc)) (PairsWith.more (PairEntries.apart refl) PairsWith.none) h)
+      (EntriesFrom.more (SingleEntries.other (λ t x y e. cc)) (PairsWith.more (PairEntries.none refl) PairsWith.none) h)
 
   after_p : (fs : List Form) (es : List Entry) → EntriesFrom s table false (some_p ∷ no_p ∷ p e0 ∷ []) fs es
       → EntriesFrom s table false (some_p ∷ no_p ∷ []) (p e0 ∷ fs) es
   after_p fs es h =
-      EntriesFrom.more (SingleEntries.other (λ t x y e. cc)) (PairsWith.more (PairEntries.apart refl) (PairsWith.more (PairEntries.apart refl) PairsWith.none)) h
-
-  with_some : PairEntries s table false 3 0 some_p (Form.negation (p m1)) []
-  with_some =
-      PairEntries.opposed (record { plain = some_p; denied = p m1; earlier = some_p; later = p m1 }) refl
-      (BindingEntries.apart (λ made u. no_parts_of_exists some_p (p m1) u.0 u.1 refl))
-
-  with_none : PairEntries s table false 3 1 no_p (Form.negation (p m1)) []
-  with_none =
-      PairEntries.opposed (record { plain = no_p; denied = p m1; earlier = no_p; later = p m1 }) refl
-      (BindingEntries.apart (λ made u. no_parts_of_for_all no_p (p m1) u.0 u.1 refl))
+      EntriesFrom.more (SingleEntries.other (λ t x y e. cc)) (PairsWith.more (PairEntries.none refl) (PairsWith.more (PairEntries.none refl) PairsWith.none)) h
 
   unified : UnifiesForms (p e0) (p m1) (Binding.of_term 1 individual e0 ∷ [])
   unified = (
@@ -102,15 +90,18 @@ module _ (n : ℕ) (v : Bool) where
     Unifies.binds (λ q. cc) (Binds.right_term (λ k j q. cc) refl tt) Unifies.done,
   )
 
+  bounded : AreBounded (Binding.of_term 1 individual e0 ∷ [])
+  bounded zero d h = omega arith
+  bounded (suc i) d h = absurd (omega arith)
+
   with_p : PairEntries s table false 3 2 (p e0) (Form.negation (p m1)) (Entry.offer instance ∷ [])
   with_p =
-      PairEntries.opposed (record { plain = p e0; denied = p m1; earlier = p e0; later = p m1 }) refl
-      (BindingEntries.bound (Binding.of_term 1 individual e0 ∷ []) unified refl
-      (Instances.of_term 1 individual e0 (((individuals, (refl, refl), refl), tt), refl) Instances.none))
+      PairEntries.opposed (record { plain = p e0; denied = p m1; left = p e0; right = p m1 }) refl
+      (BindingEntries.listed (one_bounded (p e0) (p m1) (Binding.of_term 1 individual e0 ∷ []) unified bounded) (InstancesOf.unified (Binding.of_term 1 individual e0 ∷ []) unified))
 
   after_not_p : EntriesFrom s table false (some_p ∷ no_p ∷ p e0 ∷ []) (Form.negation (p m1) ∷ []) (Entry.offer instance ∷ [])
   after_not_p =
-      EntriesFrom.more (SingleEntries.other (λ t x y e. cc)) (PairsWith.more with_some (PairsWith.more with_none (PairsWith.more with_p PairsWith.none))) EntriesFrom.none
+      EntriesFrom.more (SingleEntries.other (λ t x y e. cc)) (PairsWith.more (PairEntries.none refl) (PairsWith.more (PairEntries.none refl) (PairsWith.more with_p PairsWith.none))) EntriesFrom.none
 
   abbrev first : Offer
   first = offer_of delta (child (p e0))
@@ -161,14 +152,6 @@ instance_over_terms n v = record {
 
 -- Over types.
 
-no_parts_of_types : (f g : Form) (es : List Equation) → FormParts f g es → g ≡ all_q → ⊥
-no_parts_of_types f g es (FormParts.atoms x y) e = cc
-no_parts_of_types f g es (FormParts.equalities) e = cc
-
-no_parts_from_types : (f g : Form) (es : List Equation) → FormParts f g es → f ≡ all_q → ⊥
-no_parts_from_types f g es (FormParts.atoms x y) e = cc
-no_parts_from_types f g es (FormParts.equalities) e = cc
-
 module _ (n : ℕ) (v : Bool) where
   abbrev types : Setting
   types = plain (type_predicate ∷ []) n v
@@ -182,16 +165,11 @@ module _ (n : ℕ) (v : Bool) where
   abbrev at_type : Placed
   at_type = entry Kind.instance (on_with all_q (Opening.of_type individual)) (q individual) all_q 2 (Some 1)
 
-  with_all : PairEntries types numbers false 1 0 all_q not_q []
-  with_all =
-      PairEntries.opposed (record { plain = all_q; denied = q individual; earlier = all_q; later = q individual }) refl
-      (BindingEntries.apart (λ made u. no_parts_from_types all_q (q individual) u.0 u.1 refl))
-
   behind_types : (fs : List Form) (es : List Entry) → EntriesFrom types numbers false (all_q ∷ not_q ∷ []) fs es
       → EntriesFrom types numbers false [] (all_q ∷ not_q ∷ fs) (Entry.offer opens ∷ es)
   behind_types fs es h =
       EntriesFrom.more (SingleEntries.other (λ t x y e. cc)) PairsWith.none
-      (EntriesFrom.more (SingleEntries.other (λ t x y e. cc)) (PairsWith.more with_all PairsWith.none) h)
+      (EntriesFrom.more (SingleEntries.other (λ t x y e. cc)) (PairsWith.more (PairEntries.none refl) PairsWith.none) h)
 
   types_unified : UnifiesForms (q individual) (q (Ty.meta 0)) (Binding.of_type 0 individual ∷ [])
   types_unified = (
@@ -200,14 +178,19 @@ module _ (n : ℕ) (v : Bool) where
     Unifies.binds (λ q. cc) (Binds.right_type (λ k q. cc) refl tt) Unifies.done,
   )
 
+  types_bounded : AreBounded (Binding.of_type 0 individual ∷ [])
+  types_bounded zero d h = omega arith
+  types_bounded (suc i) d h = absurd (omega arith)
+
   with_not_q : PairEntries types numbers false 2 1 not_q (q (Ty.meta 0)) (Entry.offer at_type ∷ [])
   with_not_q =
-      PairEntries.opposed (record { plain = q (Ty.meta 0); denied = q individual; earlier = q individual; later = q (Ty.meta 0) }) refl
-      (BindingEntries.bound (Binding.of_type 0 individual ∷ []) types_unified refl (Instances.of_type 0 individual Instances.none))
+      PairEntries.opposed (record { plain = q (Ty.meta 0); denied = q individual; left = q individual; right = q (Ty.meta 0) }) refl
+      (BindingEntries.listed (one_bounded (q individual) (q (Ty.meta 0)) (Binding.of_type 0 individual ∷ []) types_unified types_bounded)
+      (InstancesOf.unified (Binding.of_type 0 individual ∷ []) types_unified))
 
   after_q : EntriesFrom types numbers false (all_q ∷ not_q ∷ []) (q (Ty.meta 0) ∷ []) (Entry.offer at_type ∷ [])
   after_q =
-      EntriesFrom.more (SingleEntries.other (λ t x y e. cc)) (PairsWith.more (PairEntries.apart refl) (PairsWith.more with_not_q PairsWith.none)) EntriesFrom.none
+      EntriesFrom.more (SingleEntries.other (λ t x y e. cc)) (PairsWith.more (PairEntries.none refl) (PairsWith.more with_not_q PairsWith.none)) EntriesFrom.none
 
   abbrev opened : Offer
   opened = offer_of opens (child (q (Ty.meta 0)))
@@ -244,36 +227,8 @@ instance_over_types n v = record {
 
 -- Equal arguments.
 
-no_parts_of_equality : (f g : Form) (es : List Equation) → FormParts f g es → f ≡ a_is_b → (h : Term) → g ≡ p h → ⊥
-no_parts_of_equality f g es (FormParts.atoms x y) e h k = cc
-no_parts_of_equality f g es (FormParts.equalities) e h k = cc
-
--- two constants have no bindings
-clash : {made : List Binding} {es : List Equation} → Unifies [] es made → es ≡ Equation.of_terms a b ∷ [] → ⊥
-clash (Unifies.done) e = cc
-clash (Unifies.same {e = f} s u) e = same_clash f s (let i : f ≡ Equation.of_terms a b = cc in i)
-  where
-    same_clash : (f : Equation) → AreSame [] f → f ≡ Equation.of_terms a b → ⊥
-    same_clash (Equation.of_types x y) h e = cc
-    same_clash (Equation.of_terms x y) h e = cc
-clash (Unifies.binds {e = f} m s u) e = binds_clash s (let i : f ≡ Equation.of_terms a b = cc in i)
-  where
-    binds_clash : {f : Equation} {c : Binding} → Binds [] f c → f ≡ Equation.of_terms a b → ⊥
-    binds_clash (Binds.left_type x o) e = cc
-    binds_clash (Binds.right_type y x o) e = cc
-    binds_clash (Binds.left_term x o) e = cc
-    binds_clash (Binds.right_term y x o) e = cc
-clash (Unifies.splits {e = f} m s u) e = splits_clash s (let i : f ≡ Equation.of_terms a b = cc in i)
-  where
-    different : Term.app 2 Tys.none Terms.none ≡ Term.app 3 Tys.none Terms.none → ⊥
-    different e = cc
-
-    splits_clash : {f : Equation} {fs gs : List Equation} → Splits [] f fs gs → f ≡ Equation.of_terms a b → ⊥
-    splits_clash (Splits.types x y h) e = cc
-    splits_clash (Splits.terms x y h k) e = cc
-
-parts : FormParts (p a) (p b) (Equation.of_terms a b ∷ [])
-parts = FormParts.atoms (TermParts.more TermParts.none) TypeParts.none
+constants_differ : FormsDiffer (p a) (p b)
+constants_differ s e = cc
 
 module _ (n : ℕ) (v : Bool) where
   abbrev symbols : List Symbol
@@ -290,19 +245,14 @@ module _ (n : ℕ) (v : Bool) where
 
   with_atom : PairEntries equal [] true 2 0 (p a) (Form.negation (p b)) (Entry.offer arguments ∷ [])
   with_atom =
-      PairEntries.opposed (record { plain = p a; denied = p b; earlier = p a; later = p b }) refl
-      (BindingEntries.apart (λ made u. clash u.2 (one_form_parts u.1 parts)))
-
-  with_equality : PairEntries equal [] true 2 1 a_is_b (Form.negation (p b)) []
-  with_equality =
-      PairEntries.opposed (record { plain = a_is_b; denied = p b; earlier = a_is_b; later = p b }) refl
-      (BindingEntries.apart (λ made u. no_parts_of_equality a_is_b (p b) u.0 u.1 refl b refl))
+      PairEntries.opposed (record { plain = p a; denied = p b; left = p a; right = p b }) refl
+      (BindingEntries.listed (λ made u. absurd (constants_differ (unifier made) (forms_are_unified (p a) (p b) made u))) (InstancesOf.apart constants_differ))
 
   equality_raw : AreRawOffers equal [] branch (Entry.offer arguments ∷ [])
   equality_raw =
       EntriesFrom.more (SingleEntries.other (λ t x y e. cc)) PairsWith.none
-      (EntriesFrom.more (SingleEntries.other (λ t x y e. cc)) (PairsWith.more (PairEntries.apart refl) PairsWith.none)
-      (EntriesFrom.more (SingleEntries.other (λ t x y e. cc)) (PairsWith.more with_atom (PairsWith.more with_equality PairsWith.none)) EntriesFrom.none))
+      (EntriesFrom.more (SingleEntries.other (λ t x y e. cc)) (PairsWith.more (PairEntries.none refl) PairsWith.none)
+      (EntriesFrom.more (SingleEntries.other (λ t x y e. cc)) (PairsWith.more with_atom (PairsWith.more (PairEntries.none refl) PairsWith.none)) EntriesFrom.none))
 
   abbrev stepped : Offer
   stepped = offer_of arguments (child (differ individual a b))

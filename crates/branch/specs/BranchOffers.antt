@@ -6,9 +6,10 @@ use Rattle.unify.specs.Binding.{Binding}
 use Rattle.unify.specs.Unification.{UnifiesForms, UnifiesTerms}
 use Rattle.branch.specs.Setting.{Setting}
 use Rattle.branch.specs.RawOffers.{Raw, QuantifierKind, Quantified, split, split_offers, quantified, number_of, opened_offers}
-use Rattle.branch.specs.Instances.{Instances, in_order}
+use Rattle.branch.specs.Solved.{AreBounded, IsFirstDeepBinding}
+use Rattle.branch.specs.Instances.{InstancesOf}
 use Rattle.branch.specs.Equality.{value_steps, pair_steps}
-use Rattle.branch.specs.Pairs.{Opposites, opposites, first_deep}
+use Rattle.branch.specs.Pairs.{Opposites, is_equality, opposites, FormsDiffer, TermsDiffer}
 
 pub data Kind : Type 0 where
   alpha : Kind
@@ -62,38 +63,32 @@ abbrev pub instance_entries : ℕ → Option ℕ → List Raw → List Entry
 instance_entries j i [] = []
 instance_entries j i (r ∷ rs) = entries Kind.instance r.act.first j i (r ∷ []) ++ instance_entries j i rs
 
-abbrev pub is_equality : Form → Bool
-is_equality (Form.equal t a b) = true
-is_equality f = false
-
 -- whether an unnegated equality is on the branch
 abbrev pub has_equality : List Form → Bool
 has_equality [] = false
 has_equality (f ∷ fs) = is_equality f || has_equality fs
 
 module _ (s : Setting) (table : List Form) where
-  -- What the bindings of two sides give: nothing where there are none; their instances; or one entry where a binding is
-  -- too deep.
-  pub data BindingEntries (Unified : List Binding → Type 0) (j : ℕ) (i : Option ℕ) : List Entry → Type 0 where
-    apart : ((made : List Binding) → ¬ Unified made) → BindingEntries Unified j i []
-    bound : {rs : List Raw} (made : List Binding) → Unified made → first_deep made made ≡ None
-        → Instances s.symbols table (in_order made made) rs → BindingEntries Unified j i (instance_entries j i rs)
-    too_deep : (made : List Binding) (at : Side) → Unified made → first_deep made made ≡ Some at
-        → BindingEntries Unified j i (Entry.unbound at ∷ [])
+  -- What the bindings that make two trees one give: their instances, or one entry where a binding is too deep.
+  pub data BindingEntries (Unifies : List Binding → Type 0) (Differ : Type 0) (j : ℕ) (i : Option ℕ) : List Entry → Type 0 where
+    listed : {rs : List Raw} → ((made : List Binding) → Unifies made → AreBounded made)
+        → InstancesOf s.symbols table Unifies Differ rs → BindingEntries Unifies Differ j i (instance_entries j i rs)
+    too_deep : (made : List Binding) (u : Term) → Unifies made → IsFirstDeepBinding made u
+        → BindingEntries Unifies Differ j i (Entry.unbound (Side.of_term u) ∷ [])
 
   module _ (equality : Bool) where
     -- what an inequation offers beyond its rule: the instances of its two sides, and the equality step on their arguments
     pub data SingleEntries (j : ℕ) : Form → List Entry → Type 0 where
-      inequation : {xs : List Entry} (t : Ty) (u v : Term) → BindingEntries (UnifiesTerms u v) j None xs
+      inequation : {xs : List Entry} (t : Ty) (u v : Term) → BindingEntries (UnifiesTerms u v) (TermsDiffer u v) j None xs
           → SingleEntries j (differ t u v)
           (xs ++ entries Kind.equality (differ t u v) j None (cond equality (value_steps s.symbols (differ t u v) u v) []))
       other : {f : Form} → ((t : Ty) (u v : Term) → f ≡ differ t u v → ⊥) → SingleEntries j f []
 
     -- what an earlier and a later formula offer, one of which is a negation: instances, and equality steps
     pub data PairEntries (j i : ℕ) (g f : Form) : List Entry → Type 0 where
-      apart : opposites g f ≡ None → PairEntries j i g f []
+      none : opposites g f ≡ None → PairEntries j i g f []
       opposed : {xs : List Entry} (o : Opposites) → opposites g f ≡ Some o
-          → BindingEntries (UnifiesForms o.earlier o.later) j (Some i) xs
+          → BindingEntries (UnifiesForms o.left o.right) (FormsDiffer o.left o.right) j (Some i) xs
           → PairEntries j i g f (xs ++ entries Kind.equality f j (Some i) (cond equality (pair_steps s.symbols o.plain o.denied) []))
 
     -- what a formula offers with each of the formulas before it, of which the first has place i

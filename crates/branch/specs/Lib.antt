@@ -1,6 +1,8 @@
 pub mod Setting
 pub mod Branch
 pub mod RawOffers
+pub mod Typed
+pub mod Solved
 pub mod Instances
 pub mod Equality
 pub mod Pairs

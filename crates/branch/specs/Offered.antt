@@ -25,11 +25,11 @@ pub data Offered (s : Setting) (table branch : List Form) : Kind → Act → Lis
       → Offered s table branch (opened_kind q.kind) (on_with f (own_part (number_of table f) q))
       (one (at_part q (own_part (number_of table f) q)) ∷ [])
   at_term : (n : ℕ) (t : Ty) (u : Term) (f : Form) (q : Quantified) (made : List Binding) → Solves branch made
-      → Contains (in_order made made) (Binding.of_term n t u) → HasType s.symbols u t
+      → Contains (in_order made) (Binding.of_term n t u) → HasType s.symbols u t
       → slice_get table n ≡ Some f → quantified f ≡ Some q
       → Offered s table branch Kind.instance (on_with f (Opening.of_term u)) (one (at_part q (Opening.of_term u)) ∷ [])
   at_type : (n : ℕ) (u : Ty) (f : Form) (q : Quantified) (made : List Binding) → Solves branch made
-      → Contains (in_order made made) (Binding.of_type n u)
+      → Contains (in_order made) (Binding.of_type n u)
       → slice_get table n ≡ Some f → quantified f ≡ Some q
       → Offered s table branch Kind.instance (on_with f (Opening.of_type u)) (one (at_part q (Opening.of_type u)) ∷ [])
   values : (t : Ty) (f : ℕ) (ts : Tys) (us vs : Terms) → Contains branch (differ t (Term.app f ts us) (Term.app f ts vs))

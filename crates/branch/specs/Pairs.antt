@@ -1,35 +1,49 @@
--- Two formulas of which one is a negation, and the bindings of two sides.
-use Rattle.std.specs.Prelude.{ℕ, nat_lt, cond, List, [], ◌∷◌, Option, None, Some}
-use Rattle.std.specs.Option.{option_or}
-use Rattle.zm_logic.specs.Tree.{Form, Term, Side}
-use Rattle.zm_logic.specs.Measure.{type_depth, term_depth}
-use Rattle.unify.specs.Binding.{Binding, solved_type, solved_term}
+-- A formula and a negated one that may be made one, and what can't.
+use Rattle.std.specs.Prelude.{◌≢◌, Bool, true, false, ◌&&◌, ◌||◌, cond, Option, None, Some}
+use Rattle.zm_logic.specs.Tree.{Term, Form}
+use Rattle.unify.specs.Substitution.{Substitution, put_term, put_form}
 
--- two formulas one of which is a negation: the other one and the negation's inside, and both in the order of the branch
+-- A formula and a negated one: what stands unnegated, what is negated, and both in the order of the branch.
 pub record Opposites : Type 0 where
   pub plain : Form
   pub denied : Form
-  pub earlier : Form
-  pub later : Form
+  pub left : Form
+  pub right : Form
 
+abbrev pub is_atom : Form → Bool
+is_atom Form.truth = false
+is_atom Form.falsity = false
+is_atom (Form.atom p ts us) = true
+is_atom (Form.equal t a b) = false
+is_atom (Form.negation f) = false
+is_atom (Form.binary c f g) = false
+is_atom (Form.quantified q t f) = false
+is_atom (Form.for_all_types f) = false
+
+abbrev pub is_equality : Form → Bool
+is_equality Form.truth = false
+is_equality Form.falsity = false
+is_equality (Form.atom p ts us) = false
+is_equality (Form.equal t a b) = true
+is_equality (Form.negation f) = false
+is_equality (Form.binary c f g) = false
+is_equality (Form.quantified q t f) = false
+is_equality (Form.for_all_types f) = false
+
+-- both are atoms, or both are equalities
+abbrev pub alike : Form → Form → Bool
+alike f g = (is_atom f && is_atom g) || (is_equality f && is_equality g)
+
+-- an atom or an equality, and the negation of another one, either way round
 abbrev pub opposites : Form → Form → Option Opposites
 opposites (Form.negation b) (Form.negation a) = None
-opposites (Form.negation b) a = Some (record { plain = a; denied = b; earlier = b; later = a })
-opposites a (Form.negation b) = Some (record { plain = a; denied = b; earlier = a; later = b })
+opposites (Form.negation b) a = cond (alike b a) (Some (record { plain = a; denied = b; left = b; right = a })) None
+opposites a (Form.negation b) = cond (alike a b) (Some (record { plain = a; denied = b; left = a; right = b })) None
 opposites a b = None
 
--- how deep a binding's right side is with all bindings put in
-abbrev pub solved_depth : List Binding → Binding → ℕ
-solved_depth bs (Binding.of_type m u) = type_depth (solved_type bs u)
-solved_depth bs (Binding.of_term m k u) = term_depth (solved_term bs u)
+-- no substitution makes the two one
+abbrev pub FormsDiffer : Form → Form → Type 0
+FormsDiffer f g = (a : Substitution) → put_form a f ≢ put_form a g
 
--- the term that names a binding: its right side as made, or a metavariable with it as its type
-abbrev pub name_of : Binding → Term
-name_of (Binding.of_type m u) = Term.meta m u
-name_of (Binding.of_term m k u) = u
-
--- the first binding, in the order in which they were made, whose solved right side is deeper than 2,000
-abbrev pub first_deep : List Binding → List Binding → Option Side
-first_deep made [] = None
-first_deep made (b ∷ bs) =
-    option_or (first_deep made bs) (cond (nat_lt 2000 (solved_depth made b)) (Some (Side.of_term (name_of b))) None)
+abbrev pub TermsDiffer : Term → Term → Type 0
+TermsDiffer u v = (a : Substitution) → put_term a u ≢ put_term a v
