@@ -7,8 +7,6 @@ use Rattle.zm_logic.proofs.Sames.{Contains-here, Contains-there}
 use Rattle.unify.specs.Equation.{Equation}
 use Rattle.unify.specs.Binding.{Binding, unifier}
 use Rattle.unify.specs.Unification.{UnifiesForms, UnifiesTerms}
-use Rattle.unify.proofs.Unifier.{put_unifier_term}
-use Rattle.unify.proofs.Lawful.{bindings_solve, forms_are_unified, bindings_are_determined, unifiers_of_forms_are_determined}
 use Rattle.branch.specs.Setting.{Setting}
 use Rattle.branch.specs.Sound.{IsSound}
 use Rattle.branch.specs.Normal.{Fault, Made, MakesAll}
@@ -21,6 +19,7 @@ use Rattle.branch.specs.BranchOffers.{Kind, Entry, entries, own_entries, instanc
 use Rattle.branch.specs.Offers.{Child, Offer, offer_of, MakesForm, MakesChild, MakesOffer, is_useful, AreOffers, IsOfferAt}
 use Rattle.branch.specs.Introduced.{Above, HasFacts}
 use Rattle.branch.proofs.Kept.{made_is}
+use Rattle.branch.proofs.Unifiers.{IsOne, one_of_terms, one_of_forms, terms_apart, forms_apart}
 use Rattle.branch.proofs.Offered.{IsOffered, raw_offered}
 use Rattle.branch.proofs.Sequent.{of_facts}
 use Rattle.branch.proofs.Children.{AllOf, AllIn, offered_typed}
@@ -29,9 +28,6 @@ use Rattle.branch.proofs.Grows.{all_of, all_in}
 -- Raw offers.
 
 module _ (s : Setting) (table : List Form) where
-  abbrev IsOne : (List Binding → Type 0) → Type 0
-  IsOne Unified = (a b : List Binding) → Unified a → Unified b → a ≡ b
-
   some_and_none : {A : Type 0} (o : Option A) (x : A) → o ≡ None → o ≡ Some x → ⊥
   some_and_none o x e h = let i : None ≡ Some x = sym e ∙ h in cc
 
@@ -82,19 +78,6 @@ module _ (s : Setting) (table : List Form) where
     one_binding_entries (BindingEntries.too_deep made u unified d) (BindingEntries.listed h x) = absurd (not_bounded made u (h made unified) d)
     one_binding_entries (BindingEntries.too_deep made u unified d) (BindingEntries.too_deep also v united e) =
         ap (λ z. Entry.unbound (Side.of_term z) ∷ []) (one_deep made u v d (subst (λ z. IsFirstDeepBinding z v) (one also made united unified) e))
-
-  one_of_terms : (u v : Term) → IsOne (UnifiesTerms u v)
-  one_of_terms u v a b h k = bindings_are_determined [] (Equation.of_terms u v ∷ []) a b h k
-
-  one_of_forms : (f g : Form) → IsOne (UnifiesForms f g)
-  one_of_forms f g a b h k = unifiers_of_forms_are_determined f g a b h k
-
-  terms_apart : (u v : Term) → TermsDiffer u v → (made : List Binding) → UnifiesTerms u v made → ⊥
-  terms_apart u v d made h =
-      d (unifier made) (put_unifier_term made u ∙ (bindings_solve (Equation.of_terms u v ∷ []) made h).0 ∙ sym (put_unifier_term made v))
-
-  forms_apart : (f g : Form) → FormsDiffer f g → (made : List Binding) → UnifiesForms f g made → ⊥
-  forms_apart f g d made h = d (unifier made) (forms_are_unified f g made h)
 
   module _ (equality : Bool) where
     one_single : (j : ℕ) {f : Form} {xs ys : List Entry} → SingleEntries s table equality j f xs → SingleEntries s table equality j f ys → xs ≡ ys

@@ -14,15 +14,20 @@ use Rattle.branch.specs.RawOffers.{number_of}
 use Rattle.branch.specs.BranchOffers.{Entry}
 use Rattle.branch.specs.Tableau.{Leaf, enter, is_finished, current_leaf}
 use Rattle.branch.specs.Laws as laws
+use Rattle.branch.specs.Introduced.{HasFacts}
+use Rattle.branch.proofs.Typed.{term_true, term_is}
 use Rattle.branch.proofs.Offered.{raw_offered}
 use Rattle.branch.proofs.NoRules.{sound_without_rules}
 use Rattle.branch.proofs.Root.{root_given, tableau_derives}
 use Rattle.branch.proofs.Everywhere.{tableau_facts, delta_is_fresh}
 use Rattle.branch.proofs.Determined.{one_offers}
 use Rattle.branch.proofs.Picks.{picks_determine}
-use Rattle.branch.proofs.Stopped.{one_cause}
+use Rattle.branch.proofs.Stopped.{at_current, one_cause}
 use Rattle.branch.proofs.Open.{finished_current, unfinished_current}
 use Rattle.branch.proofs.Replacing.{step_lawful, unskipped, replaced_lawful, replaced_picks, replaced_count, replaced_height, replaced_current}
+
+pub typing_is_tested : laws.TypingIsTested
+typing_is_tested symbols u t = (term_true symbols u t, term_is symbols u t)
 
 pub raw_offers_are_by_rule : laws.RawOffersAreByRule
 raw_offers_are_by_rule s table branch entries h p m = raw_offered s table branch entries h (Entry.offer p) m
@@ -35,6 +40,10 @@ roots_are_given s given root sound h is = root_given s sound given root h is
 
 pub facts_hold_on_each_branch : laws.FactsHoldOnEachBranch
 facts_hold_on_each_branch s root tree sound h t = tableau_facts s sound root tree h t
+
+pub facts_hold_at_the_current_leaf : laws.FactsHoldAtTheCurrentLeaf
+facts_hold_at_the_current_leaf s root tree leaf sound h t e =
+    at_current (HasFacts s) tree (enter [] root) [] root 0 leaf (tableau_facts s sound root tree h t) e
 
 fresh_for_all : (n : ℕ) (gamma : List Form) → ((f : Form) → Contains gamma f → IsFresh n f) → IsFreshForAll n gamma
 fresh_for_all n [] h = tt

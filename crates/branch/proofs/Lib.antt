@@ -7,6 +7,7 @@ pub mod Kept
 pub mod Closing
 pub mod Uses
 pub mod Bound
+pub mod Unifiers
 pub mod Opened
 pub mod Offered
 pub mod Made

@@ -7,7 +7,6 @@ use Rattle.zm_logic.specs.Typing.{individual, individuals}
 use Rattle.unify.specs.Equation.{Equation, TypeParts, TermParts, FormParts}
 use Rattle.unify.specs.Binding.{Binding, unifier}
 use Rattle.unify.specs.Unification.{Binds, Unifies, UnifiesForms}
-use Rattle.unify.proofs.Lawful.{forms_are_unified, unifiers_of_forms_are_determined}
 use Rattle.branch.specs.Setting.{Setting}
 use Rattle.branch.specs.Normal.{Made, MakesAll}
 use Rattle.branch.specs.RawOffers.{Act, on_with, one}
@@ -20,6 +19,7 @@ use Rattle.branch.specs.Offers.{Child, Offer, offer_of, MakesForm, MakesChild, M
 use Rattle.branch.specs.Worked as worked
 use Rattle.branch.specs.Worked.{plain, unary, constant, type_predicate, p, some_p, no_p, e0, m1, q, all_q, not_q, a, b, a_is_b}
 use Rattle.branch.proofs.NoRules.{itself}
+use Rattle.branch.proofs.Unifiers.{one_of_forms, forms_apart}
 
 -- an entry for an offer with one child of one formula
 abbrev entry : Kind → Act → Form → Form → ℕ → Option ℕ → Placed
@@ -51,7 +51,7 @@ module _ (symbols : List Symbol) (n : ℕ) (v : Bool) (table branch : List Form)
 
 -- where one list of bindings is the unifier, and is bounded, every unifier is
 one_bounded : (f g : Form) (made : List Binding) → UnifiesForms f g made → AreBounded made → (also : List Binding) → UnifiesForms f g also → AreBounded also
-one_bounded f g made u h also v = subst AreBounded (unifiers_of_forms_are_determined f g made also u v) h
+one_bounded f g made u h also v = subst AreBounded (one_of_forms f g made also u v) h
 
 -- Over terms.
 
@@ -246,7 +246,7 @@ module _ (n : ℕ) (v : Bool) where
   with_atom : PairEntries equal [] true 2 0 (p a) (Form.negation (p b)) (Entry.offer arguments ∷ [])
   with_atom =
       PairEntries.opposed (record { plain = p a; denied = p b; left = p a; right = p b }) refl
-      (BindingEntries.listed (λ made u. absurd (constants_differ (unifier made) (forms_are_unified (p a) (p b) made u))) (InstancesOf.apart constants_differ))
+      (BindingEntries.listed (λ made u. absurd (forms_apart (p a) (p b) constants_differ made u)) (InstancesOf.apart constants_differ))
 
   equality_raw : AreRawOffers equal [] branch (Entry.offer arguments ∷ [])
   equality_raw =

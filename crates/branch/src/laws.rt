@@ -1,5 +1,6 @@
 //! What the definitions of branches and tableaux promise. Each function does nothing: its contract is the law.
 
+ghost use Rattle.branch.specs.Laws.{TypingIsTested, FactsHoldAtTheCurrentLeaf};
 ghost use Rattle.branch.specs.Laws.{RawOffersAreByRule, SignaturesAloneAreSound, RootsAreGiven};
 ghost use Rattle.branch.specs.Laws.{FactsHoldOnEachBranch, DeltaNumbersAreFresh, ClosedTableauxGiveDerivations};
 ghost use Rattle.branch.specs.Laws.{ClosedTableauxProveProblems, OffersAreDetermined, PicksDetermineTheTree};
@@ -7,6 +8,11 @@ ghost use Rattle.branch.specs.Laws.{CausesAreDetermined, OpenTableauxHaveACurren
 ghost use Rattle.branch.specs.Laws.{LeavesMayBeReplaced, ReplacedLeavesAreCurrent, UnprunedTableauxHaveNoSkipped};
 ghost use Rattle.branch.specs.Worked.{InstanceOverTerms, InstanceOverTypes, EqualArguments, SkippedSibling};
 ghost use Rattle.branch.specs.Worked.{NormalInOneStep, SpentAtTheLimit};
+
+/// The test of types decides whether a term is well typed and has the type.
+pub fn typing_is_tested()
+    ensures { TypingIsTested }
+{}
 
 /// Each raw offer of a branch is one by the rules of offers.
 #[tactic(auto, using(crate::proofs::Lawful::raw_offers_are_by_rule))]
@@ -30,6 +36,11 @@ pub fn roots_are_given()
 #[tactic(auto, using(crate::proofs::Lawful::facts_hold_on_each_branch))]
 pub fn facts_hold_on_each_branch()
     ensures { FactsHoldOnEachBranch }
+{}
+
+/// So it is on the branch of the current leaf.
+pub fn facts_hold_at_the_current_leaf()
+    ensures { FactsHoldAtTheCurrentLeaf }
 {}
 
 /// The number of a delta offer doesn't occur on its branch.
