@@ -1,9 +1,9 @@
 -- The test of types decides typing.
-use Rattle.std.proofs.Common.{ℕ, ◌≡◌, ◌<◌, Bool, true, false, ◌&&◌, ◌==◌, Option, None, Some, List, refl, ap, sym, subst, ◌∙◌, true≢false, arith}
+use Rattle.std.proofs.Common.{ℕ, ◌≡◌, true, Option, None, Some, List, refl, ap, sym, subst, true≢false, arith}
 use Rattle.std.proofs.lemmas.Bool.{eqb-true, eq-eqb}
 use Rattle.zm_logic.specs.Tree.{Ty, Tys, Term, Terms, Symbol, Sense}
 use Rattle.zm_logic.specs.Opening.{openings, type_instance}
-use Rattle.zm_logic.specs.Typing.{how_many, argument_types, symbol_at, Declares, IsType, AreTypes, HasType, HaveTypes}
+use Rattle.zm_logic.specs.Typing.{how_many, argument_types, symbol_at, IsType, AreTypes, HasType, HaveTypes}
 use Rattle.zm_logic.specs.Same.{same_type}
 use Rattle.zm_logic.proofs.Sames.{both_true, and_true, same_type-self, same_type-true}
 use Rattle.branch.specs.Typed.{is_constructor, constructs, result_is, makes, arguments_at, is_type, are_types, has_type, have_types}

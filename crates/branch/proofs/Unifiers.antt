@@ -1,5 +1,5 @@
 -- Two sides have one unifier, and none where no substitution makes them one.
-use Rattle.std.proofs.Common.{◌≡◌, List, [], ◌∷◌, sym, ◌∙◌}
+use Rattle.std.proofs.Common.{◌≡◌, List, sym, ◌∙◌}
 use Rattle.zm_logic.specs.Tree.{Term, Form}
 use Rattle.unify.specs.Binding.{Binding, unifier}
 use Rattle.unify.specs.Unification.{UnifiesForms, UnifiesTerms}

@@ -1,11 +1,11 @@
 -- The worked examples, by their rules.
 use Rattle.std.proofs.Common.{◌≡◌, ◌≤◌, ℕ, zero, suc, Bool, true, false, refl, subst, arith, List, [], ◌∷◌, None, Some, Option, filter}
 use Rattle.std.specs.Prelude.{codes}
-use Rattle.zm_logic.specs.Tree.{Ty, Tys, Term, Terms, Form, Opening, Symbol, differ}
+use Rattle.zm_logic.specs.Tree.{Ty, Form, Opening, Symbol, differ}
 use Rattle.zm_logic.specs.Measure.{depth}
-use Rattle.zm_logic.specs.Typing.{individual, individuals}
+use Rattle.zm_logic.specs.Typing.{individual}
 use Rattle.unify.specs.Equation.{Equation, TypeParts, TermParts, FormParts}
-use Rattle.unify.specs.Binding.{Binding, unifier}
+use Rattle.unify.specs.Binding.{Binding}
 use Rattle.unify.specs.Unification.{Binds, Unifies, UnifiesForms}
 use Rattle.branch.specs.Setting.{Setting}
 use Rattle.branch.specs.Normal.{Made, MakesAll}

@@ -1,6 +1,6 @@
 -- The raw offers of a branch: all that may be done to it, before normalising, from the whole branch and the table of
 -- numbers.
-use Rattle.std.specs.Prelude.{ℕ, ◌+◌, ◌≡◌, Bool, true, false, ◌||◌, cond, List, [], ◌∷◌, ◌++◌, Option, None, Some, length}
+use Rattle.std.specs.Prelude.{ℕ, ◌+◌, ◌≡◌, Bool, false, ◌||◌, cond, List, [], ◌∷◌, ◌++◌, Option, None, Some, length}
 use Rattle.zm_logic.specs.Tree.{Ty, Term, Form, Side, differ}
 use Rattle.unify.specs.Binding.{Binding}
 use Rattle.unify.specs.Unification.{UnifiesForms, UnifiesTerms}

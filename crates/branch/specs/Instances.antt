@@ -1,5 +1,5 @@
 -- Instances: what bindings put into quantified formulas.
-use Rattle.std.specs.Prelude.{ℕ, cond, List, [], ◌∷◌, ◌++◌, Option, None, Some, map, reverse, slice_get}
+use Rattle.std.specs.Prelude.{cond, List, [], ◌∷◌, ◌++◌, Option, None, Some, map, reverse, slice_get}
 use Rattle.zm_logic.specs.Tree.{Form, Opening, Symbol}
 use Rattle.branch.specs.RawOffers.{Quantified, Raw, quantified, opened}
 use Rattle.unify.specs.Binding.{Binding}
