@@ -96,7 +96,7 @@ pub picks_determine_the_tree : laws.PicksDetermineTheTree
 picks_determine_the_tree s root run tree also sound h x y = picks_determine s sound root h run tree also x y
 
 pub causes_are_determined : laws.CausesAreDetermined
-causes_are_determined s given budget root tree why also sound h is t x y = one_cause s sound given budget root tree why also h is t x y
+causes_are_determined s given budget tree why also sound h t x y = one_cause s sound given budget tree why also h t x y
 
 pub open_tableaux_have_a_current_leaf : laws.OpenTableauxHaveACurrentLeaf
 open_tableaux_have_a_current_leaf root tree = (

@@ -118,8 +118,26 @@ module _ (s : Setting) (sound : IsSound s) where
       let facts = at_current (HasFacts s) tree (enter [] root) [] root 0 x.leaf (tableau_facts s sound root tree (root_given s sound given root h is) t) i in
       one_stop budget (count tree) x.leaf facts.0 facts.1 why also x.stops (subst (λ z. StopsAt s budget (count tree) z also) l y.stops)
 
-  pub one_cause : (given : List Form) (budget : ℕ) (root : List Form) (tree : Node) (why also : Cause) → AreGiven s given → IsRoot s given root → IsTableau s root tree
-      → Stopped s given budget tree why → Stopped s given budget tree also → why ≡ also
-  one_cause given budget root tree why also h is t (Stopped.inside x) (Stopped.inside y) = inside given budget root tree why also h is t x y
-  one_cause given budget root tree why also h is t (Stopped.inside x) (Stopped.at_root r e y q) = absurd (no_root_fault given root r e h is y)
-  one_cause given budget root tree why also h is t (Stopped.at_root r e y q) z = absurd (no_root_fault given root r e h is y)
+  -- the first fault of given formulas
+  first_fault : (before after normal : List Form) (f : Form) (e : Fault) {x : Made (List Form)} → MakesAll (Normalizes s) before x → x ≡ Made.made normal
+      → Normalizes s f (Made.fault e) → MakesAll (Normalizes s) (before ++ f ∷ after) (Made.fault e)
+  first_fault [] after normal f e MakesAll.none q d = MakesAll.first d
+  first_fault (b ∷ before) after normal f e (MakesAll.more {y = g} {ys = ys} m ms) q d = MakesAll.later m (first_fault before after ys f e ms refl d)
+  first_fault (b ∷ before) after normal f e (MakesAll.first m) q d = cc
+  first_fault (b ∷ before) after normal f e (MakesAll.later m ms) q d = cc
+
+  one_root_fault : (given root also : List Form) (d e : Fault) → AreGiven s given → StopsAtRoot s given root d → StopsAtRoot s given also e → d ≡ e
+  one_root_fault given root also d e h x y =
+      fault_is d e (one_normal_list given h (Made.fault d) (Made.fault e) (all_of_them d root x) (all_of_them e also y))
+    where
+      all_of_them : (e : Fault) (root : List Form) → StopsAtRoot s given root e → MakesAll (Normalizes s) given (Made.fault e)
+      all_of_them e root z =
+          subst (λ fs. MakesAll (Normalizes s) fs (Made.fault e)) (sym z.order)
+          (first_fault z.before z.after z.is_root.normal z.formula e z.is_root.reached refl z.faulty)
+
+  pub one_cause : (given : List Form) (budget : ℕ) (tree : Node) (why also : Cause) → AreGiven s given
+      → ((root : List Form) → IsRoot s given root → IsTableau s root tree) → Stopped s given budget tree why → Stopped s given budget tree also → why ≡ also
+  one_cause given budget tree why also h t (Stopped.inside x) (Stopped.inside y) = inside given budget x.root tree why also h x.is_root (t x.root x.is_root) x y
+  one_cause given budget tree why also h t (Stopped.inside x) (Stopped.at_root r e y q) = absurd (no_root_fault given x.root r e h x.is_root y)
+  one_cause given budget tree why also h t (Stopped.at_root r e y q) (Stopped.inside x) = absurd (no_root_fault given x.root r e h x.is_root y)
+  one_cause given budget tree why also h t (Stopped.at_root r d x p) (Stopped.at_root k e y q) = sym p ∙ ap by_fault (one_root_fault given r k d e h x y) ∙ q

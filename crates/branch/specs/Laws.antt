@@ -83,11 +83,11 @@ PicksDetermineTheTree =
     (s : Setting) (root : List Form) (run : List ℕ) (tree also : Node) → IsSound s → AreGiven s root
     → IsRun s root run tree → IsRun s root run also → tree ≡ also
 
--- a tree stops for one cause
+-- a tree stops for one cause. It is a tableau below the root's branch, if the given formulas have normal forms.
 abbrev pub CausesAreDetermined : Type 0
 CausesAreDetermined =
-    (s : Setting) (given : List Form) (budget : ℕ) (root : List Form) (tree : Node) (why also : Cause)
-    → IsSound s → AreGiven s given → IsRoot s given root → IsTableau s root tree
+    (s : Setting) (given : List Form) (budget : ℕ) (tree : Node) (why also : Cause)
+    → IsSound s → AreGiven s given → ((root : List Form) → IsRoot s given root → IsTableau s root tree)
     → Stopped s given budget tree why → Stopped s given budget tree also → why ≡ also
 
 -- some leaf is Open exactly where there is a current leaf
