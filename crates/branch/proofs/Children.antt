@@ -9,7 +9,7 @@ use Rattle.zm_logic.proofs.Typed.{no_parameters}
 use Rattle.unify.specs.Binding.{Binding}
 use Rattle.branch.specs.Setting.{Setting}
 use Rattle.branch.specs.Sound.{IsSound}
-use Rattle.branch.specs.RawOffers.{Act, Quantified, quantified, on_with, one, split, own_part, number_of, at_part}
+use Rattle.param_store.specs.RawOffers.{Act, Quantified, quantified, on_with, one, split, own_part, number_of, at_part}
 use Rattle.branch.specs.Instances.{in_order}
 use Rattle.branch.specs.Equality.{singles, unequal}
 use Rattle.branch.specs.BranchOffers.{Kind, opened_kind}

@@ -9,7 +9,7 @@ use Rattle.zm_logic.proofs.Sames.{Contains-here, Contains-there, Contains-none, 
 use Rattle.branch.specs.Branch.{extend}
 use Rattle.branch.specs.Setting.{Setting}
 use Rattle.branch.specs.Sound.{IsSound}
-use Rattle.branch.specs.RawOffers.{Act}
+use Rattle.param_store.specs.RawOffers.{Act}
 use Rattle.branch.specs.BranchOffers.{Kind}
 use Rattle.branch.specs.Tableau.{Node, Children, given, is_finished, are_finished, is_skipped, fresh, without, is_apart, acted, is_idle, skips, used_or, uses, uses_all, idle_uses, enter, enter_child, after, IsLawful, AreLawful}
 use Rattle.branch.specs.Offered.{Offered}

@@ -9,7 +9,7 @@ use Rattle.unify.specs.Unification.{UnifiesForms, UnifiesTerms}
 use Rattle.branch.specs.Setting.{Setting}
 use Rattle.branch.specs.Sound.{IsSound}
 use Rattle.branch.specs.Normal.{Fault, Made, MakesAll}
-use Rattle.branch.specs.RawOffers.{Act, Raw}
+use Rattle.param_store.specs.RawOffers.{Act, Raw}
 use Rattle.branch.specs.Solved.{solved_depth, name_of, AreBounded, IsFirstDeepBinding}
 use Rattle.branch.specs.Instances.{InstancesOf, instances, in_order}
 use Rattle.branch.specs.Equality.{value_steps, pair_steps}

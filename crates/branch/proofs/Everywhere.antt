@@ -6,7 +6,7 @@ use Rattle.zm_logic.proofs.Sames.{Contains-here, Contains-there, Contains-none}
 use Rattle.branch.specs.Branch.{extend}
 use Rattle.branch.specs.Setting.{Setting}
 use Rattle.branch.specs.Sound.{IsSound, AreGiven}
-use Rattle.branch.specs.RawOffers.{Act, own_part, at_part, number_of}
+use Rattle.param_store.specs.RawOffers.{Act, own_part, at_part, number_of}
 use Rattle.branch.specs.BranchOffers.{Kind, split_kind}
 use Rattle.branch.specs.Offers.{Child, IsOfferAt}
 use Rattle.branch.specs.Tableau.{Node, Children, given, is_skipped, skips, enter, enter_child, after, IsLawful, AreLawful, IsTableau}

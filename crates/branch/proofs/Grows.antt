@@ -11,7 +11,7 @@ use Rattle.branch.specs.Branch.{add, extend}
 use Rattle.branch.specs.Setting.{Setting}
 use Rattle.branch.specs.Sound.{IsSound}
 use Rattle.branch.specs.Normal.{Reaches}
-use Rattle.branch.specs.RawOffers.{Act, Quantified, quantified, is_quantified, own_part, number_of, at_part, on_with, one}
+use Rattle.param_store.specs.RawOffers.{Act, Quantified, quantified, is_quantified, own_part, number_of, at_part, on_with, one}
 use Rattle.branch.specs.BranchOffers.{Kind, opened_kind}
 use Rattle.branch.specs.Tableau.{Node, Children, enter, enter_child, is_skipped, after, after_all}
 use Rattle.branch.specs.Offered.{Offered}

@@ -10,7 +10,7 @@ use Rattle.zm_logic.specs.Truth.{refuted}
 use Rattle.zm_logic.proofs.Sames.{Contains-here, Contains-there, Contains-cases, Contains-none, only}
 use Rattle.branch.specs.Setting.{Setting}
 use Rattle.branch.specs.Sound.{AreGiven}
-use Rattle.branch.specs.RawOffers.{number_of}
+use Rattle.param_store.specs.RawOffers.{number_of}
 use Rattle.branch.specs.BranchOffers.{Entry}
 use Rattle.branch.specs.Tableau.{Leaf, enter, is_finished, current_leaf}
 use Rattle.branch.specs.Laws as laws

@@ -5,7 +5,7 @@ use Rattle.zm_logic.specs.Tree.{Form}
 use Rattle.zm_logic.proofs.Sames.{Contains-here, Contains-there, Contains-cases, Contains-none}
 use Rattle.branch.specs.Setting.{Setting}
 use Rattle.branch.specs.Normal.{Made, Reaches, MakesAll}
-use Rattle.branch.specs.RawOffers.{Act}
+use Rattle.param_store.specs.RawOffers.{Act}
 use Rattle.branch.specs.BranchOffers.{Kind, Entry}
 use Rattle.branch.specs.Offers.{Child, Offer, MakesForm, MakesChild, MakesOffer, is_useful, IsOfferAt}
 use Rattle.branch.specs.Offered.{Offered}

@@ -9,7 +9,7 @@ use Rattle.zm_logic.proofs.Sames.{Contains-here, Contains-there, Contains-cases,
 use Rattle.unify.specs.Binding.{Binding}
 use Rattle.unify.specs.Unification.{UnifiesForms, UnifiesTerms}
 use Rattle.branch.specs.Setting.{Setting}
-use Rattle.branch.specs.RawOffers.{Raw, Quantified, on, on_with, one, split, split_offers, quantified, own_part, number_of, at_part, opened, opened_offers}
+use Rattle.param_store.specs.RawOffers.{Raw, Quantified, on, on_with, one, split, split_offers, quantified, own_part, number_of, at_part, opened, opened_offers}
 use Rattle.branch.specs.Typed.{has_type}
 use Rattle.branch.specs.Instances.{InstancesOf, instances, in_order, instance_of, opened_where}
 use Rattle.branch.specs.Equality.{unequal, has_arguments, on_pair, step, value_steps, pair_steps}

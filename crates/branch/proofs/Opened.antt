@@ -8,7 +8,7 @@ use Rattle.zm_logic.specs.Calculus.{Derives}
 use Rattle.zm_logic.proofs.Instance.{well_typed_at_term, well_typed_at_type, open_is_type}
 use Rattle.zm_logic.proofs.Each.{EachInOpening, each_open, each_open_types}
 use Rattle.branch.specs.Setting.{Setting}
-use Rattle.branch.specs.RawOffers.{QuantifierKind, Quantified, quantified, is_quantified, part_for, own_part, at_part}
+use Rattle.param_store.specs.RawOffers.{QuantifierKind, Quantified, quantified, is_quantified, part_for, own_part, at_part}
 use Rattle.branch.specs.Introduced.{part_of}
 use Rattle.branch.proofs.Inverted.{well_typed_negation, binder_type}
 use Rattle.branch.proofs.Kept.{CarriesTypes}

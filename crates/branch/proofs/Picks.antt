@@ -6,7 +6,7 @@ use Rattle.zm_logic.proofs.Sames.{both_true}
 use Rattle.branch.specs.Branch.{Closing, closing, extend}
 use Rattle.branch.specs.Setting.{Setting}
 use Rattle.branch.specs.Sound.{IsSound, AreGiven}
-use Rattle.branch.specs.RawOffers.{Act}
+use Rattle.param_store.specs.RawOffers.{Act}
 use Rattle.branch.specs.BranchOffers.{Kind}
 use Rattle.branch.specs.Offers.{Child, IsOfferAt}
 use Rattle.branch.specs.Tableau.{Node, Children, given, is_finished, are_finished, is_skipped, is_open, are_open, skips, enter, enter_child, after, IsLawful, AreLawful, Leaf, current, current_of, picks, picks_all}

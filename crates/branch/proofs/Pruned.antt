@@ -9,7 +9,7 @@ use Rattle.zm_logic.proofs.Sames.{only}
 use Rattle.branch.specs.Setting.{Setting}
 use Rattle.branch.specs.Innermost.{FirstRewrites, InnermostStep}
 use Rattle.branch.specs.Normal.{Made, NormalizesFrom, MakesAll}
-use Rattle.branch.specs.RawOffers.{on, one, two}
+use Rattle.param_store.specs.RawOffers.{on, one, two}
 use Rattle.branch.specs.BranchOffers.{Kind, Placed, Entry, SingleEntries, PairEntries, PairsWith, EntriesFrom}
 use Rattle.branch.specs.Offers.{Offer, offer_of, MakesForm, MakesChild, MakesOffer, IsOfferAt}
 use Rattle.branch.specs.Worked as worked

@@ -5,7 +5,7 @@ use Rattle.zm_logic.specs.Tree.{Form}
 use Rattle.zm_logic.proofs.Sames.{both_true}
 use Rattle.branch.specs.Branch.{closing, extend}
 use Rattle.branch.specs.Setting.{Setting}
-use Rattle.branch.specs.RawOffers.{Act}
+use Rattle.param_store.specs.RawOffers.{Act}
 use Rattle.branch.specs.BranchOffers.{Kind}
 use Rattle.branch.specs.Offers.{Child, IsOfferAt}
 use Rattle.branch.specs.Tableau.{Node, Children, given, is_finished, are_finished, is_skipped, are_open, is_idle, uses, skips, enter, enter_child, after, IsLawful, AreLawful, Leaf, current, current_of, picks, picks_all, count, count_all, height, height_all}

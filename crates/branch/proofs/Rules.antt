@@ -10,7 +10,7 @@ use Rattle.zm_logic.proofs.Sames.{Contains-here, Contains-there, Contains-cases,
 use Rattle.branch.specs.Setting.{Setting}
 use Rattle.branch.specs.Sound.{IsSound}
 use Rattle.branch.specs.Normal.{Reaches}
-use Rattle.branch.specs.RawOffers.{Act, one, split, number_of, own_part, at_part}
+use Rattle.param_store.specs.RawOffers.{Act, one, split, number_of, own_part, at_part}
 use Rattle.branch.specs.Equality.{singles, unequal}
 use Rattle.branch.specs.BranchOffers.{Kind}
 use Rattle.branch.specs.Offers.{Child, Offer, has_all, has_some, normals, is_useful}

@@ -4,7 +4,7 @@ use Rattle.zm_logic.specs.Tree.{Form}
 use Rattle.zm_logic.specs.Parameter.{EachIn}
 use Rattle.zm_logic.specs.Typing.{WellTyped}
 use Rattle.branch.specs.Setting.{Setting}
-use Rattle.branch.specs.RawOffers.{is_quantified}
+use Rattle.param_store.specs.RawOffers.{is_quantified}
 use Rattle.branch.specs.Introduced.{Above, IsIntroduced, HasFacts}
 
 -- the sequent holds the branch and all formulas before normalising

@@ -9,7 +9,7 @@ use Rattle.unify.specs.Binding.{Binding}
 use Rattle.unify.specs.Unification.{Binds, Unifies, UnifiesForms}
 use Rattle.branch.specs.Setting.{Setting}
 use Rattle.branch.specs.Normal.{Made, MakesAll}
-use Rattle.branch.specs.RawOffers.{Act, on_with, one}
+use Rattle.param_store.specs.RawOffers.{Act, on_with, one}
 use Rattle.branch.specs.Solved.{AreBounded}
 use Rattle.branch.specs.Instances.{InstancesOf}
 use Rattle.branch.specs.Pairs.{FormsDiffer}

@@ -5,7 +5,7 @@ use Rattle.zm_logic.specs.Tree.{Ty, Term, Form, Side, differ}
 use Rattle.unify.specs.Binding.{Binding}
 use Rattle.unify.specs.Unification.{UnifiesForms, UnifiesTerms}
 use Rattle.branch.specs.Setting.{Setting}
-use Rattle.branch.specs.RawOffers.{Raw, QuantifierKind, Quantified, split, split_offers, quantified, number_of, opened_offers}
+use Rattle.param_store.specs.RawOffers.{Raw, QuantifierKind, Quantified, split, split_offers, quantified, number_of, opened_offers}
 use Rattle.branch.specs.Solved.{AreBounded, IsFirstDeepBinding}
 use Rattle.branch.specs.Instances.{InstancesOf}
 use Rattle.branch.specs.Equality.{value_steps, pair_steps}

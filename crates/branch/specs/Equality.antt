@@ -4,7 +4,7 @@ use Rattle.zm_logic.specs.Tree.{Tys, Term, Terms, Form, Symbol, differ}
 use Rattle.zm_logic.specs.Typing.{symbol_at, argument_types}
 use Rattle.zm_logic.specs.Calculus.{differ_each}
 use Rattle.zm_logic.specs.Same.{same_type, same_types}
-use Rattle.branch.specs.RawOffers.{Act, Raw, on, one}
+use Rattle.param_store.specs.RawOffers.{Act, Raw, on, one}
 
 -- each formula in a child of its own
 abbrev pub singles : List Form → List (List Form)

@@ -1,7 +1,7 @@
 -- Instances: what bindings put into quantified formulas.
 use Rattle.std.specs.Prelude.{cond, List, [], ◌∷◌, ◌++◌, Option, None, Some, map, reverse, slice_get}
 use Rattle.zm_logic.specs.Tree.{Form, Opening, Symbol}
-use Rattle.branch.specs.RawOffers.{Quantified, Raw, quantified, opened}
+use Rattle.param_store.specs.RawOffers.{Quantified, Raw, quantified, opened}
 use Rattle.unify.specs.Binding.{Binding}
 use Rattle.branch.specs.Solved.{solved_binding}
 use Rattle.branch.specs.Typed.{has_type}

@@ -6,7 +6,7 @@ use Rattle.zm_logic.specs.Parameter.{Parameter, number, EachIn}
 use Rattle.zm_logic.specs.Typing.{WellTyped}
 use Rattle.branch.specs.Setting.{Setting}
 use Rattle.branch.specs.Normal.{Reaches}
-use Rattle.branch.specs.RawOffers.{Act, Quantified, quantified, is_quantified, own_part, at_part, on_with}
+use Rattle.param_store.specs.RawOffers.{Act, Quantified, quantified, is_quantified, own_part, at_part, on_with}
 use Rattle.branch.specs.BranchOffers.{Kind, opened_kind}
 
 -- a Step above on the branch

@@ -10,7 +10,7 @@ use Rattle.zm_logic.specs.Truth.{refuted}
 use Rattle.branch.specs.Branch.{closing}
 use Rattle.branch.specs.Setting.{Setting}
 use Rattle.branch.specs.Sound.{IsSound, AreGiven}
-use Rattle.branch.specs.RawOffers.{Act, number_of}
+use Rattle.param_store.specs.RawOffers.{Act, number_of}
 use Rattle.branch.specs.BranchOffers.{Kind, Placed, Entry, AreRawOffers}
 use Rattle.branch.specs.Typed.{has_type}
 use Rattle.branch.specs.Offered.{Offered}

@@ -1,6 +1,5 @@
 pub mod Setting
 pub mod Branch
-pub mod RawOffers
 pub mod Typed
 pub mod Solved
 pub mod Instances

@@ -6,7 +6,7 @@ use Rattle.zm_logic.specs.Typing.{HasType, symbol_at}
 use Rattle.unify.specs.Binding.{Binding}
 use Rattle.unify.specs.Unification.{UnifiesForms, UnifiesTerms}
 use Rattle.branch.specs.Setting.{Setting}
-use Rattle.branch.specs.RawOffers.{Act, Quantified, on, on_with, one, split, quantified, own_part, number_of, at_part}
+use Rattle.param_store.specs.RawOffers.{Act, Quantified, on, on_with, one, split, quantified, own_part, number_of, at_part}
 use Rattle.branch.specs.Instances.{in_order}
 use Rattle.branch.specs.Equality.{unequal, on_pair}
 use Rattle.branch.specs.BranchOffers.{Kind, split_kind, opened_kind}

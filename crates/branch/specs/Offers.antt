@@ -6,7 +6,7 @@ use Rattle.zm_logic.specs.Measure as measure
 use Rattle.zm_logic.specs.Same.{has}
 use Rattle.branch.specs.Setting.{Setting}
 use Rattle.branch.specs.Normal.{Fault, Made, Normalizes, MakesAll}
-use Rattle.branch.specs.RawOffers.{Act}
+use Rattle.param_store.specs.RawOffers.{Act}
 use Rattle.branch.specs.BranchOffers.{Kind, Placed, Entry, AreRawOffers}
 
 -- a child of an offer: its formulas before and after normalising

@@ -5,7 +5,7 @@ use Rattle.zm_logic.specs.Tree.{Form}
 use Rattle.zm_logic.specs.Same.{has}
 use Rattle.branch.specs.Branch.{Closing, closing, extend}
 use Rattle.branch.specs.Setting.{Setting}
-use Rattle.branch.specs.RawOffers.{Act, is_quantified}
+use Rattle.param_store.specs.RawOffers.{Act, is_quantified}
 use Rattle.branch.specs.BranchOffers.{Kind}
 use Rattle.branch.specs.Offers.{Child, IsOfferAt}
 

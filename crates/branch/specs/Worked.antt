@@ -7,7 +7,7 @@ use Rattle.zm_logic.specs.Typing.{individual}
 use Rattle.branch.specs.Branch.{pair_of}
 use Rattle.branch.specs.Setting.{Setting}
 use Rattle.branch.specs.Normal.{Fault, Made, Normalizes, Reaches}
-use Rattle.branch.specs.RawOffers.{Act, on, on_with, one, two}
+use Rattle.param_store.specs.RawOffers.{Act, on, on_with, one, two}
 use Rattle.branch.specs.Equality.{on_pair}
 use Rattle.branch.specs.BranchOffers.{Kind}
 use Rattle.branch.specs.Tableau.{Node, Children, IsTableau, is_finished, picks}

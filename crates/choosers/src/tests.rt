@@ -1,0 +1,41 @@
+use crate::{Kind, Offer};
+use std::test::Fail;
+
+// an alpha offer of the third formula of a branch
+fn alpha() -> Offer {
+    Offer {
+        kind: Kind::Alpha,
+        children: 1,
+        size: 5,
+        later: 2,
+        earlier: None,
+    }
+}
+
+#[test]
+fn equal_offers_agree_in_each_field(rt: HostRuntime) -> Result<(), Fail> {
+    let offer = alpha();
+    assert_eq!(rt; offer, alpha());
+    let mut other = offer;
+    other.kind = Kind::Delta;
+    assert!(rt; other != offer, "kind");
+    other = offer;
+    other.children = 2;
+    assert!(rt; other != offer, "children");
+    other = offer;
+    other.size = 6;
+    assert!(rt; other != offer, "size");
+    Ok(())
+}
+
+#[test]
+fn equal_offers_agree_in_their_places(rt: HostRuntime) -> Result<(), Fail> {
+    let offer = alpha();
+    let mut other = offer;
+    other.later = 3;
+    assert!(rt; other != offer, "later");
+    other = offer;
+    other.earlier = Some(0);
+    assert!(rt; other != offer, "earlier");
+    Ok(())
+}

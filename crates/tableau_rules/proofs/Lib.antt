@@ -1,0 +1,4 @@
+pub mod Made
+pub mod Offered
+pub mod Refused
+pub mod Shapes

@@ -1,0 +1,12 @@
+//! What a formula by itself gives to be done: alpha, beta, delta, and gamma with its metavariable.
+#![tactic(auto)]
+
+mod children;
+mod opening;
+mod own;
+mod split;
+#[cfg(test)]
+mod tests;
+
+pub use own::own_offers;
+pub use param_store::OfferFault;

@@ -1,0 +1,7 @@
+use Rattle.std.proofs.Common.{◌≡◌, ◌≤◌, take}
+use Rattle.indexmap.specs.IndexMap.{values}
+use Rattle.term_store.specs.Depth.{greatest_type}
+use Rattle.term_store.proofs.depths.types_depth.Given as goal
+
+abbrev pub invariant-loop-id : goal.invariant-loop-id
+invariant-loop-id l = (l.all ≡ greatest_type (values l.types) (take l.id-index l.ids)) × (l.all ≤ 2000)

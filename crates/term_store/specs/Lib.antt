@@ -1,0 +1,10 @@
+pub mod Table
+pub mod Node
+pub mod Trees
+pub mod Sound
+pub mod Depth
+pub mod Fault
+pub mod Memo
+pub mod Open
+pub mod Change
+pub mod Connective

@@ -1,0 +1,7 @@
+mod closing;
+mod depth;
+mod opening;
+mod round_trip;
+mod sharing;
+mod stored;
+mod trees;
