@@ -1,0 +1,31 @@
+ghost use Rattle.std.specs.Prelude.{◌≡◌, true, false, map, nat_eq, OnOk, IfOk};
+ghost use Rattle.indexmap.specs.IndexSet.{IsEmpty};
+ghost use Rattle.zm_logic.specs.View.{symbol_tree};
+ghost use Rattle.term_store.specs.Trees.{type_of, term_of};
+ghost use Rattle.equality_rules.specs.Typed.{is_type};
+ghost use Rattle.equality_rules.specs.Heads.{is_typed};
+ghost use Rattle.equality_rules.specs.Checked.{IsRight};
+
+use indexmap::IndexSet;
+use std::alloc::Global;
+use term_store::{TermId, TyId};
+
+/// The types and terms that one call found to be well typed.
+#[derive(Drop)]
+pub(crate) struct Checked {
+    pub(crate) types: IndexSet<TyId>,
+    pub(crate) terms: IndexSet<TermId>,
+}
+
+impl Checked {
+    /// Nothing. It takes no memory.
+    pub(crate) fn new(alloc: Global) -> Checked
+        ensures types { IsEmpty result.types }
+        ensures terms { IsEmpty result.terms }
+    {
+        Checked {
+            types: IndexSet::new(alloc),
+            terms: IndexSet::new(alloc),
+        }
+    }
+}
