@@ -1,14 +1,15 @@
 -- Sides that are equal under the bindings add none: it makes no difference whether they are dropped or split further.
 use Rattle.std.proofs.Common.{ℕ, zero, suc, ◌≡◌, ◌+◌, ◌<◌, List, ◌∷◌, refl, ap, sym, subst, ◌∙◌, arith}
 use Rattle.zm_logic.specs.Tree.{Ty, Tys, Term, Terms}
+use Rattle.unify.specs.Task.{weight}
+use Rattle.unify.specs.Weight.{type_weight, types_weight, term_weight, terms_weight}
+use Rattle.unify.specs.Lawful.{AreLawful}
 use Rattle.unify.specs.Equation.{Equation, TypeParts, TermParts}
 use Rattle.unify.specs.Binding.{Binding, solved_type, solved_term, head_type, head_term, unifier}
 use Rattle.unify.specs.Unification.{LacksTypeMeta, LacksTermMeta, Binds, Splits, Unifies}
 use Rattle.unify.specs.Solution.{IsSolved}
-use Rattle.unify.proofs.Solved.{solved_types, solved_terms, AreLawful, solved_con, solved_more, solved_app, solved_more_term, unbound_type, unbound_term, head_solved_type, head_solved_term, head_unbound_type, head_unbound_term}
-use Rattle.unify.proofs.Measure.{type_weight, types_weight, term_weight, terms_weight}
+use Rattle.unify.proofs.Solved.{solved_types, solved_terms, solved_con, solved_more, solved_app, solved_more_term, unbound_type, unbound_term, head_solved_type, head_solved_term, head_unbound_type, head_unbound_term}
 use Rattle.unify.proofs.Total.{Outcome, outcome}
-use Rattle.unify.proofs.End.{weight}
 use Rattle.unify.proofs.Unifier.{unifier_agrees, solves_solved}
 
 module _ (bs : List Binding) (l : AreLawful bs) where

@@ -1,24 +1,19 @@
 -- Unification ends: each list of equations has bindings or no solution.
 use Rattle.std.proofs.Common.{ℕ, zero, suc, ◌≡◌, ◌≢◌, ◌+◌, ◌<◌, ◌≤◌, ◌⊎◌, inl, inr, List, [], ◌∷◌, length, ap, sym, subst, ◌∙◌, arith}
 use Rattle.zm_logic.specs.Tree.{Ty, Tys, Term, Terms}
+use Rattle.unify.specs.Metas.{Variable}
+use Rattle.unify.specs.Task.{weight, weights}
+use Rattle.unify.specs.Weight.{type_weight, types_weight, term_weight, terms_weight}
+use Rattle.unify.specs.Lawful.{AreLawful}
 use Rattle.unify.specs.Substitution.{Substitution, put_type, put_types, put_term, put_terms}
 use Rattle.unify.specs.Equation.{Equation, Solves, SolvesAll, TypeParts, TermParts}
 use Rattle.unify.specs.Binding.{Binding, solved_type, solved_term, head_type, head_term}
 use Rattle.unify.specs.Unification.{Binds, Splits, AreSame, Unifies}
 use Rattle.unify.specs.Solution.{Agrees}
-use Rattle.unify.proofs.Solved.{solved_types, solved_terms, AreLawful, solved_con, solved_more, solved_app, solved_more_term, unbound_type, unbound_term, head_solved_type, head_solved_term, head_unbound_type, head_unbound_term}
+use Rattle.unify.proofs.Solved.{solved_types, solved_terms, solved_con, solved_more, solved_app, solved_more_term, unbound_type, unbound_term, head_solved_type, head_solved_term, head_unbound_type, head_unbound_term}
 use Rattle.unify.proofs.General.{lawful_more, agrees_more, put_head_type, put_head_term, type_parts_put, term_parts_put}
-use Rattle.unify.proofs.Measure.{type_weight, types_weight, term_weight, terms_weight, Variable, Among, without, TypeIn, TypesIn, TermIn, TermsIn, type_lacking_in, type_put_in, term_put_type_in, type_still_in, term_lacking_in, term_put_in}
+use Rattle.unify.proofs.Measure.{Among, without, TypeIn, TypesIn, TermIn, TermsIn, type_lacking_in, type_put_in, term_put_type_in, type_still_in, term_lacking_in, term_put_in}
 use Rattle.unify.proofs.Total.{Outcome, outcome}
-
--- the weight of the sides under the bindings
-abbrev pub weight : List Binding → Equation → ℕ
-weight bs (Equation.of_types s t) = type_weight (solved_type bs s) + type_weight (solved_type bs t)
-weight bs (Equation.of_terms s t) = term_weight (solved_term bs s) + term_weight (solved_term bs t)
-
-abbrev pub weights : List Binding → List Equation → ℕ
-weights bs [] = 0
-weights bs (e ∷ es) = weight bs e + weights bs es
 
 -- the metavariables of the sides under the bindings are in the list
 abbrev pub IsIn : List Variable → List Binding → Equation → Type 0
@@ -30,19 +25,19 @@ AreIn vs bs [] = Unit {0}
 AreIn vs bs (e ∷ es) = IsIn vs bs e × AreIn vs bs es
 
 -- a type weighs something
-type_heavy : (t : Ty) → 0 < type_weight t
+pub type_heavy : (t : Ty) → 0 < type_weight t
 type_heavy (Ty.bound i) = omega arith
 type_heavy (Ty.param i) = omega arith
 type_heavy (Ty.meta i) = omega arith
 type_heavy (Ty.con c ts) = omega arith
 
-term_heavy : (t : Term) → 0 < term_weight t
+pub term_heavy : (t : Term) → 0 < term_weight t
 term_heavy (Term.bound i) = omega arith
 term_heavy (Term.eps i t) = omega arith
 term_heavy (Term.meta i t) = omega arith
 term_heavy (Term.app f ts us) = omega arith
 
-heavy : (bs : List Binding) (e : Equation) → 0 < weight bs e
+pub heavy : (bs : List Binding) (e : Equation) → 0 < weight bs e
 heavy bs (Equation.of_types s t) = omega (arith, type_heavy (solved_type bs s))
 heavy bs (Equation.of_terms s t) = omega (arith, term_heavy (solved_term bs s))
 
@@ -71,7 +66,7 @@ module _ (bs : List Binding) where
 
   module _ (l : AreLawful bs) where
     -- parts weigh less, and hold no other metavariables
-    pub splits_less : {e : Equation} {es all : List Equation} → Splits bs e es all → weights bs all < weight bs e + weights bs es
+    pub splits_less : {e : Equation} {es all : List Equation} → Splits bs e es all → weights bs all + 1 < weight bs e + weights bs es
     splits_less (Splits.types {s = s} {t = t} {c = c} {ss = ss} {ts = ts} x y p) =
         let hs = ap type_weight (sym (head_solved_type bs l s) ∙ ap (solved_type bs) x ∙ solved_con bs c ss) in
         let ht = ap type_weight (sym (head_solved_type bs l t) ∙ ap (solved_type bs) y ∙ solved_con bs c ts) in

@@ -9,7 +9,7 @@ use Rattle.unify.specs.Solution.{AreSolved, solved_form}
 use Rattle.unify.specs.Unification.{UnifiesForms, AreAtomsOrEqualities}
 use Rattle.unify.proofs.General.{type_parts_solved, term_parts_solved, type_parts_put, term_parts_put}
 use Rattle.unify.proofs.Total.{type_parts, term_parts}
-use Rattle.unify.proofs.Mgu.{mgu_or_none}
+use Rattle.unify.proofs.Theorem.{mgu_or_none}
 use Rattle.unify.proofs.Unifier.{put_unifier_type, put_unifier_types, put_unifier_term, put_unifier_terms}
 
 -- a substitution that makes the formulas one solves the equations between their parts

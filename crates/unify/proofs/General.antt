@@ -1,12 +1,13 @@
 -- The bindings that the equations give solve them, and are the most general that do.
 use Rattle.std.proofs.Common.{◌≡◌, List, ◌∷◌, refl, ap, sym, subst, ◌∙◌}
 use Rattle.zm_logic.specs.Tree.{Ty, Tys, Term, Terms}
+use Rattle.unify.specs.Lawful.{AreLawful}
 use Rattle.unify.specs.Substitution.{Substitution, put_type, put_types, put_term, put_terms}
 use Rattle.unify.specs.Equation.{Equation, Solves, SolvesAll, TypeParts, TermParts}
 use Rattle.unify.specs.Binding.{Binding, only_type, only_term, solved_type, solved_term, head_type, head_term}
 use Rattle.unify.specs.Unification.{LacksTypeMeta, LacksTermMeta, Binds, Splits, Unifies}
 use Rattle.unify.specs.Solution.{IsSolved, AreSolved, Agrees}
-use Rattle.unify.proofs.Solved.{solved_types, solved_terms, AreLawful, agrees_type, agrees_term, solved_con, solved_more, solved_app, solved_more_term, joined_type, joined_term, head_solved_type, head_solved_term, head_unbound_type, head_unbound_term}
+use Rattle.unify.proofs.Solved.{solved_types, solved_terms, agrees_type, agrees_term, solved_con, solved_more, solved_app, solved_more_term, joined_type, joined_term, head_solved_type, head_solved_term, head_unbound_type, head_unbound_term}
 
 -- one more binding keeps what is solved
 pub one_more : (b : Binding) (bs : List Binding) (e : Equation) → IsSolved bs e → IsSolved (b ∷ bs) e

@@ -1,34 +1,13 @@
 -- Weights, and the metavariables that occur, by which unification ends.
-use Rattle.std.proofs.Common.{ℕ, ◌≡◌, ◌≢◌, ◌+◌, ◌<◌, ◌≤◌, ◌⊎◌, inl, inr, List, [], ◌∷◌, length, ap, sym, subst, ◌∙◌, arith}
+use Rattle.std.proofs.Common.{ℕ, ◌≡◌, ◌≢◌, ◌<◌, ◌≤◌, ◌⊎◌, inl, inr, List, [], ◌∷◌, length, ap, sym, subst, ◌∙◌, arith}
 use Rattle.std.proofs.lemmas.Bool.Decides.{eqb_tells}
 use Rattle.zm_logic.specs.Tree.{Ty, Tys, Term, Terms}
+use Rattle.unify.specs.Metas.{Variable}
+use Rattle.unify.specs.Weight.{type_weight, types_weight, term_weight, terms_weight}
 use Rattle.unify.specs.Substitution.{Substitution, put_type, put_types, put_term, put_terms}
 use Rattle.unify.specs.Binding.{only_type, only_term}
 use Rattle.unify.specs.Unification.{LacksTypeMeta, LackTypeMeta, LacksTermMeta, LackTermMeta}
 use Rattle.unify.proofs.Same.{same_meta_tells}
-
--- the number of constructors, a parameter counting one
-abbrev mutual
-  pub type_weight : Ty → ℕ
-  type_weight (Ty.bound i) = 1
-  type_weight (Ty.param n) = 1
-  type_weight (Ty.meta n) = 1
-  type_weight (Ty.con c ts) = 1 + types_weight ts
-
-  pub types_weight : Tys → ℕ
-  types_weight Tys.none = 0
-  types_weight (Tys.more t ts) = type_weight t + types_weight ts
-
-abbrev mutual
-  pub term_weight : Term → ℕ
-  term_weight (Term.bound i) = 1
-  term_weight (Term.eps n t) = 1
-  term_weight (Term.meta n t) = 1
-  term_weight (Term.app f ts us) = 1 + (types_weight ts + terms_weight us)
-
-  pub terms_weight : Terms → ℕ
-  terms_weight Terms.none = 0
-  terms_weight (Terms.more u us) = term_weight u + terms_weight us
 
 -- a metavariable occurs, and then what it stands for weighs no more than the tree, or it doesn't
 mutual
@@ -61,10 +40,6 @@ mutual
     | inr x ↦ inr (λ a. omega (arith, x a))
     | inl x ↦ elim (occur_terms m k ts) [ inl y ↦ inl (x, y) | inr y ↦ inr (λ a. omega (arith, y a)) ]
   ]
-
-pub data Variable : Type 0 where
-  type : (number : ℕ) → Variable
-  term : (number : ℕ) (of : Ty) → Variable
 
 pub variable_decides : (x y : Variable) → (x ≡ y) ⊎ (x ≢ y)
 variable_decides (Variable.type n) (Variable.type m) = elim (eqb_tells n m) [ inl x ↦ inl (ap Variable.type x.1) | inr x ↦ inr (λ e. x.1 (cc)) ]

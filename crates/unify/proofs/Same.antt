@@ -9,7 +9,7 @@ abbrev pub Tells : Bool → Type 0 → Type 0
 Tells b A = ((b ≡ true) × A) ⊎ ((b ≡ false) × (A → ⊥))
 
 -- a test by a test, where the facts follow from each other
-tells_by : {A B : Type 0} (b : Bool) → (A → B) → (B → A) → Tells b A → Tells b B
+pub tells_by : {A B : Type 0} (b : Bool) → (A → B) → (B → A) → Tells b A → Tells b B
 tells_by b f g h = elim h [ inl x ↦ inl (x.0, f x.1) | inr x ↦ inr (x.0, λ y. x.1 (g y)) ]
 
 -- a test of two facts

@@ -2,6 +2,7 @@
 use Rattle.std.proofs.Common.{ℕ, ◌≡◌, ◌≢◌, inl, inr, List, [], ◌∷◌, refl, ap, sym, subst, ◌∙◌}
 use Rattle.std.proofs.lemmas.Bool.Decides.{eqb_tells}
 use Rattle.zm_logic.specs.Tree.{Ty, Tys, Term, Terms}
+use Rattle.unify.specs.Lawful.{LacksTypeBinding, LacksTermBinding, AreLawful}
 use Rattle.unify.specs.Substitution.{Substitution, put_type, put_types, put_term, put_terms}
 use Rattle.unify.specs.Binding.{Binding, only_type, only_term, solved_type, solved_term, if_type_meta, if_term_meta, head_type, head_term}
 use Rattle.unify.specs.Unification.{LacksTypeMeta, LacksTermMeta}
@@ -19,24 +20,6 @@ abbrev pub solved_terms : List Binding → Terms → Terms
 solved_terms [] us = us
 solved_terms (Binding.of_type m u ∷ bs) us = put_terms (only_type m (solved_type bs u)) (solved_terms bs us)
 solved_terms (Binding.of_term m k u ∷ bs) us = put_terms (only_term m k (solved_term bs u)) (solved_terms bs us)
-
--- the metavariable is bound by none
-abbrev pub LacksTypeBinding : ℕ → List Binding → Type 0
-LacksTypeBinding m [] = Unit {0}
-LacksTypeBinding m (Binding.of_type n u ∷ bs) = (m ≢ n) × LacksTypeBinding m bs
-LacksTypeBinding m (Binding.of_term n k u ∷ bs) = LacksTypeBinding m bs
-
-abbrev pub LacksTermBinding : ℕ → Ty → List Binding → Type 0
-LacksTermBinding m j [] = Unit {0}
-LacksTermBinding m j (Binding.of_type n u ∷ bs) = LacksTermBinding m j bs
-LacksTermBinding m j (Binding.of_term n k u ∷ bs) = (Term.meta m j ≢ Term.meta n k) × LacksTermBinding m j bs
-
--- each metavariable is bound once, to a tree that doesn't hold it under the earlier bindings, and that is no metavariable which they bind
-abbrev pub AreLawful : List Binding → Type 0
-AreLawful [] = Unit {0}
-AreLawful (Binding.of_type m u ∷ bs) = LacksTypeBinding m bs × LacksTypeMeta m (solved_type bs u) × ((n : ℕ) → u ≡ Ty.meta n → LacksTypeBinding n bs) × AreLawful bs
-AreLawful (Binding.of_term m k u ∷ bs) =
-    LacksTermBinding m k bs × LacksTermMeta m k (solved_term bs u) × ((n : ℕ) (j : Ty) → u ≡ Term.meta n j → LacksTermBinding n j bs) × AreLawful bs
 
 -- a substitution that solves the bindings takes no notice of them: they are the most general
 pub agrees_type : (a : Substitution) (bs : List Binding) → Agrees a bs → (t : Ty) → put_type a (solved_type bs t) ≡ put_type a t

@@ -2,15 +2,17 @@
 use Rattle.std.proofs.Common.{ℕ, ◌≡◌, ◌≢◌, ◌+◌, ◌≤◌, ◌⊎◌, inl, inr, List, [], ◌∷◌, refl, ap, sym, subst, ◌∙◌, arith}
 use Rattle.std.proofs.lemmas.Bool.Decides.{eqb_tells}
 use Rattle.zm_logic.specs.Tree.{Ty, Tys, Term, Terms}
+use Rattle.unify.specs.Weight.{type_weight, types_weight, term_weight, terms_weight}
+use Rattle.unify.specs.Lawful.{AreLawful}
 use Rattle.unify.specs.Substitution.{Substitution, put_type, put_types, put_term, put_terms}
 use Rattle.unify.specs.Equation.{Equation, Solves, TypeParts, TermParts}
 use Rattle.unify.specs.Binding.{Binding, only_type, only_term, solved_type, solved_term, head_type, head_term}
 use Rattle.unify.specs.Unification.{LacksTypeMeta, LacksTermMeta, Binds, Splits, AreSame}
 use Rattle.unify.specs.Solution.{Agrees}
 use Rattle.unify.proofs.Same.{same_type_tells, same_types_tell, same_meta_tells}
-use Rattle.unify.proofs.Solved.{solved_types, solved_terms, AreLawful, agrees_type, agrees_term, solved_con, solved_app, unbound_type, unbound_term, head_solved_type, head_solved_term, head_unbound_type, head_unbound_term}
+use Rattle.unify.proofs.Solved.{solved_types, solved_terms, agrees_type, agrees_term, solved_con, solved_app, unbound_type, unbound_term, head_solved_type, head_solved_term, head_unbound_type, head_unbound_term}
 use Rattle.unify.proofs.General.{put_head_type, put_head_term}
-use Rattle.unify.proofs.Measure.{type_weight, types_weight, term_weight, terms_weight, occur_types, occur_terms}
+use Rattle.unify.proofs.Measure.{occur_types, occur_terms}
 
 -- no substitution that solves the bindings solves the equation
 abbrev pub Fails : List Binding → Equation → Type 0

@@ -1,11 +1,12 @@
 -- The bindings as a substitution: it solves them, and so whatever is equal under them is solved by it.
 use Rattle.std.proofs.Common.{◌≡◌, List, [], ◌∷◌, refl, ap, sym, ◌∙◌}
 use Rattle.zm_logic.specs.Tree.{Ty, Tys, Term, Terms}
+use Rattle.unify.specs.Lawful.{AreLawful}
 use Rattle.unify.specs.Substitution.{put_type, put_types, put_term, put_terms}
 use Rattle.unify.specs.Equation.{Equation, Solves, SolvesAll}
 use Rattle.unify.specs.Binding.{Binding, solved_type, solved_term, unifier}
 use Rattle.unify.specs.Solution.{IsSolved, AreSolved, Agrees}
-use Rattle.unify.proofs.Solved.{solved_types, solved_terms, AreLawful, solved_con, solved_more, solved_app, solved_more_term, joined_type, joined_term}
+use Rattle.unify.proofs.Solved.{solved_types, solved_terms, solved_con, solved_more, solved_app, solved_more_term, joined_type, joined_term}
 use Rattle.unify.proofs.General.{one_more}
 use Rattle.unify.proofs.Total.{solved_bound, solved_param, solved_none, solved_bound_term, solved_eps, solved_no_term}
 

@@ -1,11 +1,11 @@
 -- The worked examples.
 use Rattle.std.proofs.Common.{◌≡◌, refl, ap, arith}
+use Rattle.unify.specs.Weight.{term_weight}
 use Rattle.unify.specs.Equation.{Equation, TypeParts, TermParts, FormParts}
 use Rattle.unify.specs.Binding.{unifier}
 use Rattle.unify.specs.Unification.{Binds, Splits, Unifies}
 use Rattle.unify.specs.Worked as worked
 use Rattle.unify.proofs.General.{solved_all}
-use Rattle.unify.proofs.Measure.{term_weight}
 use Rattle.unify.proofs.Unifier.{solves_solved}
 
 pub repeated : worked.RepeatedMetavariable

@@ -6,3 +6,12 @@ pub mod Part
 pub mod Solution
 pub mod Laws
 pub mod Worked
+pub mod View
+pub mod Weight
+pub mod Lawful
+pub mod Pending
+pub mod Occurs
+pub mod Metas
+pub mod Task
+pub mod Answer
+pub mod Solving

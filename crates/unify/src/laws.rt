@@ -9,19 +9,19 @@ ghost use Rattle.unify.specs.Worked.{RepeatedMetavariable, CircularBindings, Cla
 ghost use Rattle.unify.specs.Worked.{CarriedTypesStay};
 
 /// The bindings that equations give solve them.
-#[tactic(auto, using(crate::proofs::Lawful::bindings_solve))]
+#[tactic(auto, using(crate::proofs::Promises::bindings_solve))]
 pub fn bindings_solve()
     ensures { BindingsSolve }
 {}
 
 /// They are the most general that do: a substitution that solves the equations solves the bindings.
-#[tactic(auto, using(crate::proofs::Lawful::bindings_are_most_general))]
+#[tactic(auto, using(crate::proofs::Promises::bindings_are_most_general))]
 pub fn bindings_are_most_general()
     ensures { BindingsAreMostGeneral }
 {}
 
 /// Each solution of the equations is an instance of the bindings.
-#[tactic(auto, using(crate::proofs::Lawful::solutions_are_instances))]
+#[tactic(auto, using(crate::proofs::Promises::solutions_are_instances))]
 pub fn solutions_are_instances()
     ensures { SolutionsAreInstances }
 {}
@@ -37,43 +37,43 @@ pub fn bindings_where_solvable()
 {}
 
 /// Equations determine their bindings and the order of these.
-#[tactic(auto, using(crate::proofs::Lawful::bindings_are_determined))]
+#[tactic(auto, using(crate::proofs::Promises::bindings_are_determined))]
 pub fn bindings_are_determined()
     ensures { BindingsAreDetermined }
 {}
 
 /// An equation that holds under the bindings made before it may be dropped: it adds none.
-#[tactic(auto, using(crate::proofs::Lawful::solved_equations_add_nothing))]
+#[tactic(auto, using(crate::proofs::Promises::solved_equations_add_nothing))]
 pub fn solved_equations_add_nothing()
     ensures { SolvedEquationsAddNothing }
 {}
 
 /// Each right side, as it was made, is a part of a side of an equation.
-#[tactic(auto, using(crate::proofs::Lawful::right_sides_are_parts))]
+#[tactic(auto, using(crate::proofs::Promises::right_sides_are_parts))]
 pub fn right_sides_are_parts()
     ensures { RightSidesAreParts }
 {}
 
 /// A tree with all bindings put in stays as it is where they are put in again.
-#[tactic(auto, using(crate::proofs::Lawful::solved_trees_are_solved))]
+#[tactic(auto, using(crate::proofs::Promises::solved_trees_are_solved))]
 pub fn solved_trees_are_solved()
     ensures { SolvedTreesAreSolved }
 {}
 
 /// The bindings that two atoms or two equalities give make them one formula.
-#[tactic(auto, using(crate::proofs::Lawful::forms_are_unified))]
+#[tactic(auto, using(crate::proofs::Promises::forms_are_unified))]
 pub fn forms_are_unified()
     ensures { FormsAreUnified }
 {}
 
 /// A substitution that makes two formulas one solves their bindings.
-#[tactic(auto, using(crate::proofs::Lawful::unifiers_of_forms_are_most_general))]
+#[tactic(auto, using(crate::proofs::Promises::unifiers_of_forms_are_most_general))]
 pub fn unifiers_of_forms_are_most_general()
     ensures { UnifiersOfFormsAreMostGeneral }
 {}
 
 /// Two atoms or two equalities give bindings, or no substitution makes them one formula.
-#[tactic(auto, using(crate::proofs::Lawful::unifier_of_forms_or_none))]
+#[tactic(auto, using(crate::proofs::Promises::unifier_of_forms_or_none))]
 pub fn unifier_of_forms_or_none()
     ensures { UnifierOfFormsOrNone }
 {}

@@ -1,6 +1,7 @@
 -- The theorem: equations have a most general solution, given by their bindings, or none.
 use Rattle.std.proofs.Common.{◌≡◌, ◌+◌, ◌⊎◌, inl, inr, List, [], ◌∷◌, ◌++◌, length, refl, arith}
 use Rattle.zm_logic.specs.Tree.{Ty, Tys, Term, Terms}
+use Rattle.unify.specs.Metas.{Variable, type_metas, types_metas, term_metas, terms_metas}
 use Rattle.unify.specs.Substitution.{Substitution, put_type, put_term}
 use Rattle.unify.specs.Equation.{Equation, SolvesAll}
 use Rattle.unify.specs.Binding.{Binding, solved_type, solved_term}
@@ -8,31 +9,8 @@ use Rattle.unify.specs.Unification.{Unifies}
 use Rattle.unify.specs.Solution.{AreSolved}
 use Rattle.unify.proofs.Solved.{agrees_type, agrees_term}
 use Rattle.unify.proofs.General.{solved_all, most_general}
-use Rattle.unify.proofs.Measure.{Variable, Among, TypeIn, TypesIn, TermIn, TermsIn}
+use Rattle.unify.proofs.Measure.{Among, TypeIn, TypesIn, TermIn, TermsIn}
 use Rattle.unify.proofs.End.{IsIn, AreIn, unifies_or_not}
-
--- the metavariables of a tree
-abbrev mutual
-  type_metas : Ty → List Variable
-  type_metas (Ty.bound i) = []
-  type_metas (Ty.param n) = []
-  type_metas (Ty.meta n) = Variable.type n ∷ []
-  type_metas (Ty.con c ts) = types_metas ts
-
-  types_metas : Tys → List Variable
-  types_metas Tys.none = []
-  types_metas (Tys.more t ts) = type_metas t ++ types_metas ts
-
-abbrev mutual
-  term_metas : Term → List Variable
-  term_metas (Term.bound i) = []
-  term_metas (Term.eps n t) = []
-  term_metas (Term.meta n t) = Variable.term n t ∷ []
-  term_metas (Term.app f ts us) = types_metas ts ++ terms_metas us
-
-  terms_metas : Terms → List Variable
-  terms_metas Terms.none = []
-  terms_metas (Terms.more u us) = term_metas u ++ terms_metas us
 
 abbrev equation_metas : Equation → List Variable
 equation_metas (Equation.of_types s t) = type_metas s ++ type_metas t
@@ -42,18 +20,18 @@ abbrev all_metas : List Equation → List Variable
 all_metas [] = []
 all_metas (e ∷ es) = equation_metas e ++ all_metas es
 
-among_first : (v : Variable) (xs ys : List Variable) → Among v xs → Among v (xs ++ ys)
+pub among_first : (v : Variable) (xs ys : List Variable) → Among v xs → Among v (xs ++ ys)
 among_first v [] ys h = absurd h
 among_first v (x ∷ xs) ys (inl e) = inl e
 among_first v (x ∷ xs) ys (inr h) = inr (among_first v xs ys h)
 
-among_later : (v : Variable) (xs ys : List Variable) → Among v ys → Among v (xs ++ ys)
+pub among_later : (v : Variable) (xs ys : List Variable) → Among v ys → Among v (xs ++ ys)
 among_later v [] ys h = h
 among_later v (x ∷ xs) ys h = inr (among_later v xs ys h)
 
 module _ (vs : List Variable) where
   mutual
-    type_in : (t : Ty) → ((v : Variable) → Among v (type_metas t) → Among v vs) → TypeIn vs t
+    pub type_in : (t : Ty) → ((v : Variable) → Among v (type_metas t) → Among v vs) → TypeIn vs t
     type_in (Ty.bound i) h = tt
     type_in (Ty.param n) h = tt
     type_in (Ty.meta n) h = h (Variable.type n) (inl refl)
@@ -64,7 +42,7 @@ module _ (vs : List Variable) where
     types_in (Tys.more t ts) h = (type_in t (λ v a. h v (among_first v (type_metas t) (types_metas ts) a)), types_in ts (λ v a. h v (among_later v (type_metas t) (types_metas ts) a)))
 
   mutual
-    term_in : (t : Term) → ((v : Variable) → Among v (term_metas t) → Among v vs) → TermIn vs t
+    pub term_in : (t : Term) → ((v : Variable) → Among v (term_metas t) → Among v vs) → TermIn vs t
     term_in (Term.bound i) h = tt
     term_in (Term.eps n t) h = tt
     term_in (Term.meta n t) h = h (Variable.term n t) (inl refl)

@@ -7,7 +7,7 @@ use Rattle.unify.specs.Unification.{Unifies}
 use Rattle.unify.specs.Laws as laws
 use Rattle.unify.proofs.Solved.{agrees_type, agrees_term}
 use Rattle.unify.proofs.General.{lawful_all, solved_all, most_general}
-use Rattle.unify.proofs.Mgu.{mgu_or_none}
+use Rattle.unify.proofs.Theorem.{mgu_or_none}
 use Rattle.unify.proofs.Determined.{one_outcome, one_unifier}
 use Rattle.unify.proofs.Dropped.{dropped, added}
 use Rattle.unify.proofs.Parts.{made_parts}

@@ -1,0 +1,7 @@
+mod answers;
+mod clashes;
+mod deep;
+mod forms;
+mod large;
+mod terms;
+mod trees;
