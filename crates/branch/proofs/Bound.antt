@@ -9,9 +9,9 @@ use Rattle.unify.specs.Substitution.{put_type, put_types, put_term, put_terms}
 use Rattle.unify.specs.Equation.{Equation, TypeParts, TermParts, FormParts}
 use Rattle.unify.specs.Binding.{Binding, only_type, only_term, solved_type, solved_term}
 use Rattle.unify.specs.Unification.{Binds, Splits, Unifies, UnifiesForms, UnifiesTerms}
+use Rattle.unify.specs.Answer.{solved_binding}
 use Rattle.unify.proofs.Closed.{EachType, EachTerm, Sides, RightSides, of_head_type, of_head_term}
-use Rattle.branch.specs.Solved.{solved_binding}
-use Rattle.branch.specs.Instances.{in_order}
+use Rattle.equality_rules.specs.Instances.{in_order}
 use Rattle.branch.proofs.Lists.{map-source, reverse-has}
 use Rattle.branch.proofs.Inverted.{well_typed_equality, well_typed_left, well_typed_right, well_typed_atom}
 

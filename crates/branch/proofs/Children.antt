@@ -6,12 +6,12 @@ use Rattle.zm_logic.specs.Typing.{AreTypes, HasType, HaveTypes, WellTyped, IsSig
 use Rattle.zm_logic.specs.Calculus.{Derives, differ_each}
 use Rattle.zm_logic.proofs.Each.{each_types}
 use Rattle.zm_logic.proofs.Typed.{no_parameters}
+use Rattle.param_store.specs.RawOffers.{Act, Quantified, quantified, on_with, one, split, own_part, number_of, at_part}
 use Rattle.unify.specs.Binding.{Binding}
+use Rattle.equality_rules.specs.Instances.{in_order}
+use Rattle.equality_rules.specs.Equality.{singles, unequal}
 use Rattle.branch.specs.Setting.{Setting}
 use Rattle.branch.specs.Sound.{IsSound}
-use Rattle.param_store.specs.RawOffers.{Act, Quantified, quantified, on_with, one, split, own_part, number_of, at_part}
-use Rattle.branch.specs.Instances.{in_order}
-use Rattle.branch.specs.Equality.{singles, unequal}
 use Rattle.branch.specs.BranchOffers.{Kind, opened_kind}
 use Rattle.branch.specs.Offered.{Solves, Offered}
 use Rattle.branch.specs.Introduced.{Above, part_of, IsIntroduced}

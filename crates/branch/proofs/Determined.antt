@@ -4,16 +4,17 @@ use Rattle.std.proofs.lemmas.List.Elements.{All-contains, Contains-append_right}
 use Rattle.zm_logic.specs.Tree.{Term, Form, Side, differ}
 use Rattle.zm_logic.specs.Typing.{WellTyped}
 use Rattle.zm_logic.proofs.Sames.{Contains-here, Contains-there}
+use Rattle.param_store.specs.RawOffers.{Act, Raw}
 use Rattle.unify.specs.Binding.{Binding}
 use Rattle.unify.specs.Unification.{UnifiesForms, UnifiesTerms}
+use Rattle.unify.specs.Answer.{solved_depth, name_of}
+use Rattle.equality_rules.specs.Refused.{AreBounded, IsFirstDeepBinding}
+use Rattle.equality_rules.specs.Instances.{InstancesOf, instances, in_order}
+use Rattle.equality_rules.specs.Equality.{value_steps, pair_steps}
+use Rattle.equality_rules.specs.Pairs.{opposites, FormsDiffer, TermsDiffer}
 use Rattle.branch.specs.Setting.{Setting}
 use Rattle.branch.specs.Sound.{IsSound}
 use Rattle.branch.specs.Normal.{Fault, Made, MakesAll}
-use Rattle.param_store.specs.RawOffers.{Act, Raw}
-use Rattle.branch.specs.Solved.{solved_depth, name_of, AreBounded, IsFirstDeepBinding}
-use Rattle.branch.specs.Instances.{InstancesOf, instances, in_order}
-use Rattle.branch.specs.Equality.{value_steps, pair_steps}
-use Rattle.branch.specs.Pairs.{opposites, FormsDiffer, TermsDiffer}
 use Rattle.branch.specs.BranchOffers.{Kind, Entry, entries, own_entries, instance_entries, BindingEntries, SingleEntries, PairEntries, PairsWith, EntriesFrom, has_equality, AreRawOffers}
 use Rattle.branch.specs.Offers.{Child, Offer, offer_of, MakesForm, MakesChild, MakesOffer, is_useful, AreOffers, IsOfferAt}
 use Rattle.branch.specs.Introduced.{Above, HasFacts}

@@ -7,11 +7,11 @@ use Rattle.zm_logic.specs.Typing.{WellTyped}
 use Rattle.zm_logic.specs.Same.{same, has}
 use Rattle.zm_logic.proofs.Each.{each}
 use Rattle.zm_logic.proofs.Sames.{Contains-here, Contains-there, Contains-cases, Contains-none, only, same-self, same-true}
+use Rattle.param_store.specs.RawOffers.{Act, Quantified, quantified, is_quantified, own_part, number_of, at_part, on_with, one}
 use Rattle.branch.specs.Branch.{add, extend}
 use Rattle.branch.specs.Setting.{Setting}
 use Rattle.branch.specs.Sound.{IsSound}
 use Rattle.branch.specs.Normal.{Reaches}
-use Rattle.param_store.specs.RawOffers.{Act, Quantified, quantified, is_quantified, own_part, number_of, at_part, on_with, one}
 use Rattle.branch.specs.BranchOffers.{Kind, opened_kind}
 use Rattle.branch.specs.Tableau.{Node, Children, enter, enter_child, is_skipped, after, after_all}
 use Rattle.branch.specs.Offered.{Offered}
@@ -122,14 +122,6 @@ introduced_longer s t u xs ys b c k w v p i = record {
   step = w (record { kind = opened_kind i.shape.kind; act = on_with i.from (part_of p) }) i.step;
   normal = i.normal;
   follows = v i.result i.follows;
-}
-
-pub longer_table : (s : Setting) (t u : List Form) (xs : List Above) (b sequent : List Form) → Keeps t u → IsBranch s t xs b sequent → IsBranch s u xs b sequent
-longer_table s t u xs b sequent k i = record {
-  within = i.within;
-  typed = i.typed;
-  introduced = λ f m. each (IsIntroduced s t xs b) (IsIntroduced s u xs b) (introduced_longer s t u xs xs b b k (λ x h. h) (λ g h. h)) f (i.introduced f m);
-  numbered = λ f m e. contains_kept t u k f (i.numbered f m e);
 }
 
 pub carries_types : (s : Setting) (t : List Form) (xs : List Above) (b : List Form) → ((f : Form) → Contains b f → WellTyped s.symbols f) → CarriesTypes s (IsIntroduced s t xs b)

@@ -8,14 +8,13 @@ use Rattle.zm_logic.specs.Problem.{IsProblemForm, IsTypedProblem}
 use Rattle.zm_logic.specs.Calculus.{Derives}
 use Rattle.zm_logic.specs.Truth.{refuted}
 use Rattle.zm_logic.proofs.Sames.{Contains-here, Contains-there, Contains-cases, Contains-none, only}
+use Rattle.param_store.specs.RawOffers.{number_of}
 use Rattle.branch.specs.Setting.{Setting}
 use Rattle.branch.specs.Sound.{AreGiven}
-use Rattle.param_store.specs.RawOffers.{number_of}
 use Rattle.branch.specs.BranchOffers.{Entry}
 use Rattle.branch.specs.Tableau.{Leaf, enter, is_finished, current_leaf}
 use Rattle.branch.specs.Laws as laws
 use Rattle.branch.specs.Introduced.{HasFacts}
-use Rattle.branch.proofs.Typed.{term_true, term_is}
 use Rattle.branch.proofs.Offered.{raw_offered}
 use Rattle.branch.proofs.NoRules.{sound_without_rules}
 use Rattle.branch.proofs.Root.{root_given, tableau_derives}
@@ -25,9 +24,6 @@ use Rattle.branch.proofs.Picks.{picks_determine}
 use Rattle.branch.proofs.Stopped.{at_current, one_cause}
 use Rattle.branch.proofs.Open.{finished_current, unfinished_current}
 use Rattle.branch.proofs.Replacing.{step_lawful, unskipped, replaced_lawful, replaced_picks, replaced_count, replaced_height, replaced_current}
-
-pub typing_is_tested : laws.TypingIsTested
-typing_is_tested symbols u t = (term_true symbols u t, term_is symbols u t)
 
 pub raw_offers_are_by_rule : laws.RawOffersAreByRule
 raw_offers_are_by_rule s table branch entries h p m = raw_offered s table branch entries h (Entry.offer p) m

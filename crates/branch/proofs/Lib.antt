@@ -1,5 +1,4 @@
 pub mod Lists
-pub mod Typed
 pub mod Branches
 pub mod Inverted
 pub mod Arguments

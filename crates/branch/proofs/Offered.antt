@@ -6,17 +6,17 @@ use Rattle.zm_logic.specs.Tree.{Ty, Term, Form, Opening, Side, differ}
 use Rattle.zm_logic.specs.Typing.{symbol_at}
 use Rattle.zm_logic.specs.Same.{same_type, same_types}
 use Rattle.zm_logic.proofs.Sames.{Contains-here, Contains-there, Contains-cases, Contains-none, both_true, only, same_type-true, same_types-true}
+use Rattle.param_store.specs.RawOffers.{Raw, Quantified, on, on_with, one, split, split_offers, quantified, own_part, number_of, at_part, opened, opened_offers}
 use Rattle.unify.specs.Binding.{Binding}
 use Rattle.unify.specs.Unification.{UnifiesForms, UnifiesTerms}
+use Rattle.equality_rules.specs.Typed.{has_type}
+use Rattle.equality_rules.specs.Instances.{InstancesOf, instances, in_order, instance_of, opened_where}
+use Rattle.equality_rules.specs.Equality.{unequal, has_arguments, on_pair, step, value_steps, pair_steps}
+use Rattle.equality_rules.specs.Pairs.{Opposites, alike, opposites, FormsDiffer, TermsDiffer}
+use Rattle.equality_rules.proofs.Typed.{term_true}
 use Rattle.branch.specs.Setting.{Setting}
-use Rattle.param_store.specs.RawOffers.{Raw, Quantified, on, on_with, one, split, split_offers, quantified, own_part, number_of, at_part, opened, opened_offers}
-use Rattle.branch.specs.Typed.{has_type}
-use Rattle.branch.specs.Instances.{InstancesOf, instances, in_order, instance_of, opened_where}
-use Rattle.branch.specs.Equality.{unequal, has_arguments, on_pair, step, value_steps, pair_steps}
-use Rattle.branch.specs.Pairs.{Opposites, alike, opposites, FormsDiffer, TermsDiffer}
 use Rattle.branch.specs.BranchOffers.{Kind, Entry, entries, split_kind, opened_kind, opened_entries, own_entries, instance_entries, BindingEntries, SingleEntries, PairEntries, PairsWith, EntriesFrom, has_equality, AreRawOffers}
 use Rattle.branch.specs.Offered.{Solves, Offered}
-use Rattle.branch.proofs.Typed.{term_true}
 
 -- a raw offer is one by the rules, if it isn't one for bindings that are too deep
 abbrev pub IsOffered : Setting → List Form → List Form → Entry → Type 0

@@ -7,11 +7,11 @@ use Rattle.zm_logic.specs.Typing.{HaveTypes, WellTyped, symbol_at, argument_type
 use Rattle.zm_logic.specs.Calculus.{Derives, DerivesEach, differ_each}
 use Rattle.zm_logic.specs.Same.{has}
 use Rattle.zm_logic.proofs.Sames.{Contains-here, Contains-there, Contains-cases, only, contains-has, and_true, or_left}
+use Rattle.param_store.specs.RawOffers.{Act, one, split, number_of, own_part, at_part}
+use Rattle.equality_rules.specs.Equality.{singles, unequal}
 use Rattle.branch.specs.Setting.{Setting}
 use Rattle.branch.specs.Sound.{IsSound}
 use Rattle.branch.specs.Normal.{Reaches}
-use Rattle.param_store.specs.RawOffers.{Act, one, split, number_of, own_part, at_part}
-use Rattle.branch.specs.Equality.{singles, unequal}
 use Rattle.branch.specs.BranchOffers.{Kind}
 use Rattle.branch.specs.Offers.{Child, Offer, has_all, has_some, normals, is_useful}
 use Rattle.branch.specs.Tableau.{acted}

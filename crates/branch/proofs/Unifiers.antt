@@ -7,7 +7,7 @@ use Rattle.unify.proofs.General.{solved_all}
 use Rattle.unify.proofs.Unifier.{put_unifier_term}
 use Rattle.unify.proofs.Forms.{parts_solved}
 use Rattle.unify.proofs.Determined.{one_outcome, one_unifier}
-use Rattle.branch.specs.Pairs.{FormsDiffer, TermsDiffer}
+use Rattle.equality_rules.specs.Pairs.{FormsDiffer, TermsDiffer}
 
 abbrev pub IsOne : (List Binding → Type 0) → Type 0
 IsOne Unifies = (made also : List Binding) → Unifies made → Unifies also → made ≡ also

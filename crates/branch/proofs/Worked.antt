@@ -4,16 +4,16 @@ use Rattle.std.specs.Prelude.{codes}
 use Rattle.zm_logic.specs.Tree.{Ty, Form, Opening, Symbol, differ}
 use Rattle.zm_logic.specs.Measure.{depth}
 use Rattle.zm_logic.specs.Typing.{individual}
+use Rattle.param_store.specs.RawOffers.{Act, on_with, one}
 use Rattle.unify.specs.Equation.{Equation, TypeParts, TermParts, FormParts}
 use Rattle.unify.specs.Binding.{Binding}
 use Rattle.unify.specs.Unification.{Binds, Unifies, UnifiesForms}
+use Rattle.equality_rules.specs.Refused.{AreBounded}
+use Rattle.equality_rules.specs.Instances.{InstancesOf}
+use Rattle.equality_rules.specs.Pairs.{FormsDiffer}
+use Rattle.equality_rules.specs.Equality.{on_pair}
 use Rattle.branch.specs.Setting.{Setting}
 use Rattle.branch.specs.Normal.{Made, MakesAll}
-use Rattle.param_store.specs.RawOffers.{Act, on_with, one}
-use Rattle.branch.specs.Solved.{AreBounded}
-use Rattle.branch.specs.Instances.{InstancesOf}
-use Rattle.branch.specs.Pairs.{FormsDiffer}
-use Rattle.branch.specs.Equality.{on_pair}
 use Rattle.branch.specs.BranchOffers.{Kind, Placed, Entry, BindingEntries, SingleEntries, PairEntries, PairsWith, EntriesFrom, AreRawOffers}
 use Rattle.branch.specs.Offers.{Child, Offer, offer_of, MakesForm, MakesChild, MakesOffer, is_useful, IsOfferAt}
 use Rattle.branch.specs.Worked as worked

@@ -2,14 +2,14 @@
 -- numbers.
 use Rattle.std.specs.Prelude.{ℕ, ◌+◌, ◌≡◌, Bool, false, ◌||◌, cond, List, [], ◌∷◌, ◌++◌, Option, None, Some, length}
 use Rattle.zm_logic.specs.Tree.{Ty, Term, Form, Side, differ}
+use Rattle.param_store.specs.RawOffers.{Raw, QuantifierKind, Quantified, split, split_offers, quantified, number_of, opened_offers}
 use Rattle.unify.specs.Binding.{Binding}
 use Rattle.unify.specs.Unification.{UnifiesForms, UnifiesTerms}
+use Rattle.equality_rules.specs.Refused.{AreBounded, IsFirstDeepBinding}
+use Rattle.equality_rules.specs.Instances.{InstancesOf}
+use Rattle.equality_rules.specs.Equality.{value_steps, pair_steps}
+use Rattle.equality_rules.specs.Pairs.{Opposites, is_equality, opposites, FormsDiffer, TermsDiffer}
 use Rattle.branch.specs.Setting.{Setting}
-use Rattle.param_store.specs.RawOffers.{Raw, QuantifierKind, Quantified, split, split_offers, quantified, number_of, opened_offers}
-use Rattle.branch.specs.Solved.{AreBounded, IsFirstDeepBinding}
-use Rattle.branch.specs.Instances.{InstancesOf}
-use Rattle.branch.specs.Equality.{value_steps, pair_steps}
-use Rattle.branch.specs.Pairs.{Opposites, is_equality, opposites, FormsDiffer, TermsDiffer}
 
 pub data Kind : Type 0 where
   alpha : Kind

@@ -1,18 +1,17 @@
 -- What the definitions promise of one another. Each statement is the contract of a function of the module laws.
 use Rattle.std.specs.Prelude.{ℕ, ◌+◌, ◌≤◌, ◌≡◌, ◌↔◌, true, false, List, [], ◌++◌, Some, None}
 use Rattle.std.specs.List.{Contains}
-use Rattle.zm_logic.specs.Tree.{Ty, Term, Form, Symbol, Problem}
+use Rattle.zm_logic.specs.Tree.{Form, Problem}
 use Rattle.zm_logic.specs.Parameter.{IsFreshForAll}
-use Rattle.zm_logic.specs.Typing.{HasType, IsSignature}
+use Rattle.zm_logic.specs.Typing.{IsSignature}
 use Rattle.zm_logic.specs.Problem.{IsTypedProblem}
 use Rattle.zm_logic.specs.Calculus.{Derives}
 use Rattle.zm_logic.specs.Truth.{refuted}
+use Rattle.param_store.specs.RawOffers.{Act, number_of}
 use Rattle.branch.specs.Branch.{closing}
 use Rattle.branch.specs.Setting.{Setting}
 use Rattle.branch.specs.Sound.{IsSound, AreGiven}
-use Rattle.param_store.specs.RawOffers.{Act, number_of}
 use Rattle.branch.specs.BranchOffers.{Kind, Placed, Entry, AreRawOffers}
-use Rattle.branch.specs.Typed.{has_type}
 use Rattle.branch.specs.Offered.{Offered}
 use Rattle.branch.specs.Offers.{Child, Offer, AreOffers, IsOfferAt}
 use Rattle.branch.specs.Tableau.{Node, Children, Leaf, IsLawful, IsTableau, enter, current, current_leaf, is_finished, is_skipped, count, picks, height}
@@ -20,10 +19,6 @@ use Rattle.branch.specs.Stopping.{IsRoot, Cause, Stopped, IsRun}
 use Rattle.branch.specs.Introduced.{HasFacts, Above}
 use Rattle.branch.specs.Facts.{EachBranch}
 use Rattle.branch.specs.Replaced.{opening, replaced}
-
--- the test of types decides whether a term is well typed and has the type
-abbrev pub TypingIsTested : Type 0
-TypingIsTested = (symbols : List Symbol) (u : Term) (t : Ty) → (has_type symbols u t ≡ true) ↔ HasType symbols u t
 
 -- each raw offer of a branch is one by the rules
 abbrev pub RawOffersAreByRule : Type 0

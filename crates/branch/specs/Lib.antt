@@ -1,10 +1,5 @@
 pub mod Setting
 pub mod Branch
-pub mod Typed
-pub mod Solved
-pub mod Instances
-pub mod Equality
-pub mod Pairs
 pub mod BranchOffers
 pub mod Innermost
 pub mod Normal

@@ -3,12 +3,12 @@ use Rattle.std.specs.Prelude.{ℕ, ◌≡◌, true, false, List, [], ◌∷◌, 
 use Rattle.std.specs.List.{Contains}
 use Rattle.zm_logic.specs.Tree.{Ty, Tys, Term, Terms, Form, Opening, differ}
 use Rattle.zm_logic.specs.Typing.{HasType, symbol_at}
+use Rattle.param_store.specs.RawOffers.{Act, Quantified, on, on_with, one, split, quantified, own_part, number_of, at_part}
 use Rattle.unify.specs.Binding.{Binding}
 use Rattle.unify.specs.Unification.{UnifiesForms, UnifiesTerms}
+use Rattle.equality_rules.specs.Instances.{in_order}
+use Rattle.equality_rules.specs.Equality.{unequal, on_pair}
 use Rattle.branch.specs.Setting.{Setting}
-use Rattle.param_store.specs.RawOffers.{Act, Quantified, on, on_with, one, split, quantified, own_part, number_of, at_part}
-use Rattle.branch.specs.Instances.{in_order}
-use Rattle.branch.specs.Equality.{unequal, on_pair}
 use Rattle.branch.specs.BranchOffers.{Kind, split_kind, opened_kind}
 
 -- the bindings are those of two formulas of the branch, one of them negated, or of the sides of an inequation there

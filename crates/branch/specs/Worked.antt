@@ -4,11 +4,11 @@ use Rattle.std.specs.Prelude.{ℕ, codes, ◌≡◌, Bool, true, false, List, []
 use Rattle.zm_logic.specs.Tree.{Ty, Tys, Term, Terms, Form, Opening, Symbol, Sense, for_all, exists, both, either, differ}
 use Rattle.zm_logic.specs.Laws.{p_and_q, p_to_q}
 use Rattle.zm_logic.specs.Typing.{individual}
+use Rattle.param_store.specs.RawOffers.{Act, on, on_with, one, two}
+use Rattle.equality_rules.specs.Equality.{on_pair}
 use Rattle.branch.specs.Branch.{pair_of}
 use Rattle.branch.specs.Setting.{Setting}
 use Rattle.branch.specs.Normal.{Fault, Made, Normalizes, Reaches}
-use Rattle.param_store.specs.RawOffers.{Act, on, on_with, one, two}
-use Rattle.branch.specs.Equality.{on_pair}
 use Rattle.branch.specs.BranchOffers.{Kind}
 use Rattle.branch.specs.Tableau.{Node, Children, IsTableau, is_finished, picks}
 

@@ -1,6 +1,6 @@
 //! What the definitions of branches and tableaux promise. Each function does nothing: its contract is the law.
 
-ghost use Rattle.branch.specs.Laws.{TypingIsTested, FactsHoldAtTheCurrentLeaf};
+ghost use Rattle.branch.specs.Laws.{FactsHoldAtTheCurrentLeaf};
 ghost use Rattle.branch.specs.Laws.{RawOffersAreByRule, SignaturesAloneAreSound, RootsAreGiven};
 ghost use Rattle.branch.specs.Laws.{FactsHoldOnEachBranch, DeltaNumbersAreFresh, ClosedTableauxGiveDerivations};
 ghost use Rattle.branch.specs.Laws.{ClosedTableauxProveProblems, OffersAreDetermined, PicksDetermineTheTree};
@@ -8,11 +8,6 @@ ghost use Rattle.branch.specs.Laws.{CausesAreDetermined, OpenTableauxHaveACurren
 ghost use Rattle.branch.specs.Laws.{LeavesMayBeReplaced, ReplacedLeavesAreCurrent, UnprunedTableauxHaveNoSkipped};
 ghost use Rattle.branch.specs.Worked.{InstanceOverTerms, InstanceOverTypes, EqualArguments, SkippedSibling};
 ghost use Rattle.branch.specs.Worked.{NormalInOneStep, SpentAtTheLimit};
-
-/// The test of types decides whether a term is well typed and has the type.
-pub fn typing_is_tested()
-    ensures { TypingIsTested }
-{}
 
 /// Each raw offer of a branch is one by the rules of offers.
 #[tactic(auto, using(crate::proofs::Lawful::raw_offers_are_by_rule))]

@@ -1,12 +1,11 @@
 -- Numbers: places in the table of ids, and in the table of the trees.
-use Rattle.std.proofs.Common.{ℕ, zero, suc, ◌≡◌, ◌+◌, Bool, true, false, not, cond, if◌then◌else◌, Option, None, Some, IfSome, List, [], ◌∷◌, ◌++◌, length, take, slice_get, refl, ap, sym, subst, ◌∙◌, inl, inr, arith}
+use Rattle.std.proofs.Common.{ℕ, zero, suc, ◌≡◌, ◌+◌, Bool, true, false, not, cond, if◌then◌else◌, Option, None, Some, IfSome, List, [], ◌∷◌, ◌++◌, length, slice_get, refl, ap, sym, subst, ◌∙◌, inl, inr, arith}
 use Rattle.std.specs.List.{list_any, position_or_len, AllByRecursion, IsDistinct}
-use Rattle.std.proofs.lemmas.Bool.{eqb-true, eq-eqb}
+use Rattle.std.proofs.lemmas.Bool.{eq-eqb}
 use Rattle.std.proofs.lemmas.Bool.Decides.{eqb_tells}
 use Rattle.std.proofs.lemmas.Option.{slice_get_within}
 use Rattle.std.proofs.lemmas.List.Folds.{position_or_len_push}
 use Rattle.std.proofs.lemmas.Map.Keys.{IsDistinct-head, IsDistinct-tail}
-use Rattle.std.proofs.Math.Seq.{take-append_seam, take-length}
 use Rattle.zm_logic.specs.Same.{same}
 use Rattle.zm_logic.proofs.Sames.{same-self, same-true}
 use Rattle.term_store.specs.Trees.{Tables, AreShared, HasForm, form_of}
@@ -25,9 +24,6 @@ position_step p x xs = by (p x) (position_or_len p xs)
 
 id_of : (f g : FormId) → f.0 ≡ g.0 → f ≡ g
 id_of f g e = ap (λ (n : ℕ). record { 0 = n }) e
-
-pub same_id_true : (f g : FormId) → same_id f g ≡ true → f ≡ g
-same_id_true f g e = id_of f g (eqb-true f.0 g.0 e)
 
 pub same_id_self : (f : FormId) → same_id f f ≡ true
 same_id_self f = eq-eqb f.0 f.0 refl
@@ -73,14 +69,6 @@ number_with ids f = by (list_any (same_id f) ids)
     by : (b : Bool) → number_in (if b then ids else ids ++ f ∷ []) f ≡ number_in ids f
     by true = refl
     by false = pushed
-
--- and it leaves the table as it was when it is taken out
-pub take_with : (ids : List FormId) (f : FormId) → take (length ids) (with_form ids f) ≡ ids
-take_with ids f = by (list_any (same_id f) ids)
-  where
-    by : (b : Bool) → take (length ids) (if b then ids else ids ++ f ∷ []) ≡ ids
-    by true = take-length ids
-    by false = take-append_seam ids (f ∷ [])
 
 has_push : (s : Tables) (ids : List FormId) (f : FormId) → HasForms s ids → HasForm s f → HasForms s (ids ++ f ∷ [])
 has_push s [] f h k = (k, tt)

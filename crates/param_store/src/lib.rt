@@ -3,7 +3,7 @@
 
 mod fault;
 mod offer;
-mod opened;
+mod opening;
 mod params;
 mod quantified;
 #[cfg(test)]
@@ -11,6 +11,6 @@ mod tests;
 
 pub use fault::OfferFault;
 pub use offer::{Act, FormLists, RawOffer, RawOffers};
-pub use opened::{at_part, signed};
+pub use opening::{at_part, opened, signed};
 pub use params::Params;
 pub use quantified::{Binder, Quantified, QuantifierKind, as_quantified};

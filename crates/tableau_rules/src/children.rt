@@ -48,13 +48,6 @@ fn both(alloc: Global, left: FormIds, right: FormIds) -> Result<FormLists, Alloc
     Ok(all)
 }
 
-/// The one child that has the one formula.
-pub(crate) fn single(alloc: Global, form: FormId) -> Result<FormLists, AllocError>
-    ensures { IfOk result (λ all. all ≡ (form ∷ []) ∷ []) }
-{
-    only(alloc, one(alloc, form)?)
-}
-
 // The one formula of a child.
 fn one_signed(
     alloc: Global,

@@ -8,8 +8,7 @@ ghost use Rattle.param_store.specs.RawOffers as raw;
 ghost use Rattle.param_store.specs.Fault.{IfDeepAt};
 ghost use Rattle.param_store.specs.View.{kind_of, binder_of, quantified_of, raw_of, HasBinder, HasQuantified, HasRaw};
 
-use crate::children::single;
-use param_store::{Act, Binder, OfferFault, Quantified, QuantifierKind, RawOffer, at_part};
+use param_store::{Binder, OfferFault, Quantified, QuantifierKind, RawOffer, opened};
 use std::alloc::{AllocError, Global};
 use term_store::{FormId, MkFault, Opening, Store, TermNode, TyId, TyNode};
 
@@ -65,34 +64,6 @@ fn own_part(store: &mut Store, quantified: Quantified, number: u64) -> Result<Op
         Binder::OfType => own_type(store, quantified.kind, number),
         Binder::OfTerm(ty) => own_term(store, quantified.kind, ty, number),
     }
-}
-
-// The offer that opens the formula acted on with a part.
-fn opened(
-    alloc: Global,
-    store: &mut Store,
-    acted: FormId,
-    quantified: Quantified,
-    with: Opening,
-) -> Result<RawOffer, OfferFault>
-    requires acted { HasForm store.old acted }
-    requires has { HasQuantified store.old quantified }
-    requires part { HasPart store.old with }
-    ensures has { IfOk result (HasRaw store.new) }
-    ensures offer { IfOk result (λ r. raw_of store.new r ≡ raw.opened (form_of store.old acted) (quantified_of store.old quantified) (part_of store.old with)) }
-    ensures kept { Extends store.old store.new }
-    ensures bounded { OnOk result (depth (raw.at_part (quantified_of store.old quantified) (part_of store.old with)) ≤ 2000) }
-    ensures deep { IfErr result (IfDeepAt (λ at. (at ≡ OfForm acted) × (2000 < depth (raw.at_part (quantified_of store.old quantified) (part_of store.old with))))) }
-{
-    let form = at_part(store, quantified, with, acted)?;
-    let children = single(alloc, form)?;
-    let act = Act {
-        first: acted,
-        second: None,
-        with: Some(with),
-        other: false,
-    };
-    Ok(RawOffer { act, children })
 }
 
 /// The offer of a quantified formula of a number.

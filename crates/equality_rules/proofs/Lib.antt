@@ -1,0 +1,14 @@
+pub mod Typed
+pub mod Standing
+pub mod Pairwise
+pub mod Lists
+pub mod Heads
+pub mod Places
+pub mod Matches
+pub mod Folds
+pub mod Offers
+pub mod Listing
+pub mod Unifying
+pub mod Bound
+pub mod Given
+pub mod Answering

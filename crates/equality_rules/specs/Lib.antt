@@ -1,0 +1,9 @@
+pub mod Typed
+pub mod Instances
+pub mod Equality
+pub mod Pairs
+pub mod Refused
+pub mod Laws
+pub mod Heads
+pub mod Checked
+pub mod Offered
