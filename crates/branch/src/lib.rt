@@ -2,4 +2,26 @@
 //! kept in normal form by rewrite rules. The definitions stand in `specs/`, and what they promise in `laws`.
 #![tactic(auto)]
 
+mod along;
+mod closing;
+mod entering;
 pub mod laws;
+mod listed;
+mod listing;
+mod next;
+mod node;
+mod place;
+mod sizes;
+mod start;
+mod stepping;
+mod stop;
+mod tableau;
+#[cfg(test)]
+mod tests;
+mod why;
+
+pub use node::{Child, ClosingPair, Node};
+pub use start::StartStop;
+pub use stop::BranchStop;
+pub use tableau::{Branch, Closed, Open, Rooted, Tableau};
+pub use why::Why;

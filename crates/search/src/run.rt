@@ -1,17 +1,20 @@
-ghost use Rattle.std.specs.Prelude.{◌≡◌, ◌≤◌, IfOk, map, All};
-ghost use Rattle.zm_logic.specs.View.{problem_tree};
-ghost use Rattle.zm_logic.specs.Truth.{refuted};
-ghost use Rattle.search.specs.Need.{need, weights};
-ghost use Rattle.search.specs.Propositional.{IsPropositionalProblem};
-ghost use Rattle.search.specs.Tableau.{root, IsTableau, count, picks as spec_picks};
-ghost use Rattle.search.specs.Searched.{searched_tree, IsClosed, IsStopped, IsRefuted, IsFalsified, IsDecided};
-
-use crate::branch::root_branch;
-use crate::growth::grow;
-use crate::node::Why;
-use crate::tableau::{Closed, Open, Tableau};
+use branch::{BranchStop, Closed, Open, StartStop, Tableau, Why};
+use rule_select::Selection;
 use std::alloc::{AllocError, Global};
-use zm_logic::Problem;
+use term_store::{Redex, Store};
+use zm_logic::{Side, TypedProblem};
+
+/// The greatest number of Steps on a branch.
+const LONGEST: u32 = 512;
+
+/// What a search may spend.
+#[derive(Clone, Copy, Debug, PartialEq, Eq)]
+pub struct Budget {
+    /// The most Steps, from 1 to 1,000,000.
+    pub steps: u32,
+    /// The most steps of rewriting for a normal form, from 1 to 1,000,000.
+    pub rewrites: u32,
+}
 
 /// What a search answers.
 #[derive(Drop)]
@@ -22,30 +25,99 @@ pub enum Searched {
     Open(Tableau<Open>, Why),
 }
 
-/// Searches for a closed tableau of the premises and the negated conjecture, with at most so many Steps. It works depth
-/// first, from left to right, and takes the first offer of the branch at each Step.
-///
-/// No branch gets more than 512 Steps. The one error is want of memory.
-pub fn search(alloc: Global, problem: &Problem, steps: u32) -> Result<Searched, AllocError>
-    requires { IsPropositionalProblem (problem_tree problem.now) }
+// The tree of a place in the store.
+fn side_of(alloc: Global, store: &Store, at: Redex) -> Result<Side, AllocError> {
+    match at {
+        Redex::OfTerm(term) => Ok(Side::OfTerm(store.term_tree(term)?)),
+        Redex::OfForm(form) => Ok(Side::OfForm(store.form_tree(form)?)),
+    }
+}
 
-    // The tableau, and why it ends.
-    ensures lawful { IfOk result (λ s. IsTableau (root (problem_tree problem.now)) (searched_tree s)) }
-    ensures steps { IfOk result (λ s. count (searched_tree s) ≤ steps) }
-    ensures picks { IfOk result (λ s. All (λ k. k ≡ 0) (spec_picks (searched_tree s))) }
-    ensures closed { IfOk result IsClosed }
-    ensures stopped { IfOk result (IsStopped (problem_tree problem.now) steps) }
+// Why the offers of a branch can't be made.
+fn why_of(alloc: Global, store: &Store, stop: BranchStop) -> Result<Why, AllocError> {
+    match stop {
+        BranchStop::Memory => Err(AllocError),
+        BranchStop::Spent { from } => Ok(Why::Rewrites {
+            from: store.form_tree(from)?,
+        }),
+        BranchStop::Deep { at } => Ok(Why::Deep {
+            at: side_of(alloc, store, at)?,
+        }),
+    }
+}
 
-    // What the answers mean, and that one of them comes.
-    ensures derivation { IfOk result (IsRefuted (problem_tree problem.now)) }
-    ensures falsified { IfOk result (IsFalsified (problem_tree problem.now)) }
-    ensures decided { weights (refuted (problem_tree problem.now)) ≤ 512 → need (refuted (problem_tree problem.now)) ≤ steps → IfOk result IsDecided }
-{
-    let mut branch = root_branch(alloc, problem)?;
-    let mut left = steps;
-    let grown = grow(alloc, &mut branch, 0, 0, &mut left)?;
-    Ok(match grown.why {
-        None => Searched::Closed(Tableau::new(grown.node, Closed)),
-        Some(why) => Searched::Open(Tableau::new(grown.node, Open), why),
-    })
+// Closes leaves up to the first whose branch isn't closed.
+fn close_leaves(tableau: &mut Tableau<Open>) -> Result<(), AllocError> {
+    while !tableau.is_finished() && tableau.branch().closing_pair().is_some() {
+        tableau.close_leaf()?;
+    }
+    Ok(())
+}
+
+// Why no Step is put at a leaf with so many offers.
+fn stop_at(tableau: &Tableau<Open>, offers: usize, steps: u32) -> Option<Why> {
+    if offers == 0 {
+        return Some(Why::Saturated);
+    }
+    if tableau.steps() == steps {
+        return Some(Why::Steps);
+    }
+    if tableau.branch_steps() == LONGEST {
+        return Some(Why::BranchLength);
+    }
+    None
+}
+
+// Why no Step is put at the current leaf.
+fn stop(alloc: Global, tableau: &mut Tableau<Open>, steps: u32) -> Result<Option<Why>, AllocError> {
+    let offers = match tableau.offers() {
+        Ok(offers) => Ok(offers.len()),
+        Err(stop) => Err(stop),
+    };
+    match offers {
+        Ok(count) => Ok(stop_at(tableau, count, steps)),
+        Err(stop) => Ok(Some(why_of(alloc, tableau.store(), stop)?)),
+    }
+}
+
+// Puts Steps, each with the first offer, until no leaf is Open or the search stops.
+fn grow(alloc: Global, tableau: &mut Tableau<Open>, steps: u32) -> Result<Option<Why>, AllocError> {
+    loop {
+        close_leaves(tableau)?;
+        if tableau.is_finished() {
+            return Ok(None);
+        }
+        if let Some(why) = stop(alloc, tableau, steps)? {
+            return Ok(Some(why));
+        }
+        tableau.apply(0)?;
+    }
+}
+
+// A tableau with what stopped it.
+fn searched(tableau: Tableau<Open>, why: Option<Why>) -> Searched {
+    match why {
+        Some(why) => Searched::Open(tableau, why),
+        None => match tableau.finish() {
+            Ok(closed) => Searched::Closed(closed),
+            Err(open) => Searched::Open(open, Why::Saturated),
+        },
+    }
+}
+
+/// Searches for a closed tableau.
+pub fn search(
+    alloc: Global,
+    problem: &TypedProblem,
+    selection: &Selection,
+    budget: Budget,
+) -> Result<Searched, AllocError> {
+    match Tableau::start(alloc, problem, selection, budget.rewrites) {
+        Ok(mut tableau) => {
+            let why = grow(alloc, &mut tableau, budget.steps)?;
+            Ok(searched(tableau, why))
+        }
+        Err(StartStop::Memory) => Err(AllocError),
+        Err(StartStop::Stopped { tableau, why }) => Ok(Searched::Open(tableau, why)),
+    }
 }

@@ -18,13 +18,14 @@ use crate::message::refusal_text;
 use crate::outcome::{InputRefusal, Outcome};
 use crate::report::{Answer, report};
 use crate::words::{Command, Operand, WordsStop, read_words};
-use search::search;
+use rule_select::keep_all;
+use search::{Budget, search};
 use std::alloc::{AllocError, Global};
 use tff_typing::{TypeStop, type_problem};
 use tptp_include::{GatherRefusal, Gathered, gather};
 use tptp_reader::Text;
 use zm_base::{Got, LibFail, Library, ReadStop, Source, read_to_limit};
-use zm_logic::{Problem, TypedProblem};
+use zm_logic::TypedProblem;
 
 /// The greatest number of bytes of the operand.
 pub const INPUT_LIMIT: usize = 16_777_216;
@@ -63,12 +64,17 @@ fn refused(alloc: Global, refusal: InputRefusal) -> Answer
 }
 
 // Searches, and reports what was found.
-fn solve(alloc: Global, problem: &Problem, steps: u32) -> Result<Answer, AllocError>
+fn solve(alloc: Global, problem: &TypedProblem, steps: u32) -> Result<Answer, AllocError>
     requires { spec_is_built (problem_tree problem.now) ≡ true }
     ensures { IfOk result (λ r. IsReport steps (problem_tree problem.now) r.outcome r.text.items) }
 {
-    let searched = search(alloc, problem, steps)?;
-    report(alloc, problem, steps, searched)
+    let selection = keep_all(alloc, problem)?;
+    let budget = Budget {
+        steps,
+        rewrites: 10_000,
+    };
+    let searched = search(alloc, problem, &selection, budget)?;
+    report(alloc, problem.problem(), steps, searched)
 }
 
 // What is answered to a problem that is built.
@@ -78,7 +84,7 @@ fn answer_built(alloc: Global, problem: &TypedProblem, steps: u32) -> Answer
     ensures message { IfRefused result.outcome (λ refusal. result.message.items ≡ spec_refusal_text refusal) }
     ensures library { result.outcome ≢ Outcome.LibraryFault }
 {
-    match solve(alloc, problem.problem(), steps) {
+    match solve(alloc, problem, steps) {
         Ok(answer) => answer,
         Err(AllocError) => plain(alloc, Outcome::Memory),
     }

@@ -1,54 +1,51 @@
-ghost use Rattle.std.specs.Prelude.{◌≡◌, map};
-ghost use Rattle.zm_logic.specs.View.{form_tree, types_tree, terms_tree, premise_tree, problem_tree};
-ghost use Rattle.zenon_modulo.specs.Letters.{has_no_arguments as spec_has_no_arguments, is_of_letters as spec_is_of_letters, is_built as spec_is_built, all_of_letters};
+use zm_logic::{Form, Premise, Problem};
 
-use zm_logic::{Form, Premise, Problem, Term, Ty};
-
-#[tactic(auto, using(crate::proofs::LettersAlone::some_types, crate::proofs::LettersAlone::some_terms))]
-fn has_no_arguments(types: &[Ty], terms: &[Term]) -> bool
-    ensures { result ≡ spec_has_no_arguments (types_tree types.now) (terms_tree terms.now) }
-{
-    match types {
-        [] => match terms {
-            [] => true,
-            [_, ..] => false,
-        },
-        [_, ..] => false,
+fn holds_equality(form: &Form) -> bool {
+    match form {
+        Form::True | Form::False | Form::Atom(_, _, _) => false,
+        Form::Equal(_, _, _) => true,
+        Form::Not(f) => holds_equality(f.get()),
+        Form::And(f, g) | Form::Or(f, g) | Form::Imp(f, g) | Form::Iff(f, g) => {
+            holds_equality(f.get()) || holds_equality(g.get())
+        }
+        Form::All(_, f) | Form::Ex(_, f) => holds_equality(f.get()),
+        Form::AllType(f) => holds_equality(f.get()),
     }
 }
 
-// The formula has no quantifier and no equality, and its atoms have no arguments.
-fn is_of_letters(form: &Form) -> bool
-    ensures { result ≡ spec_is_of_letters (form_tree form.now) }
-{
+fn is_plain(form: &Form) -> bool {
     match form {
-        Form::True | Form::False => true,
-        Form::Atom(_, types, terms) => has_no_arguments(types.as_slice(), terms.as_slice()),
-        Form::Not(f) => is_of_letters(f.get()),
+        Form::True | Form::False | Form::Atom(_, _, _) => true,
+        Form::Not(f) => is_plain(f.get()),
         Form::And(f, g) | Form::Or(f, g) | Form::Imp(f, g) | Form::Iff(f, g) => {
-            is_of_letters(f.get()) && is_of_letters(g.get())
+            is_plain(f.get()) && is_plain(g.get())
         }
         Form::Equal(_, _, _) | Form::All(_, _) | Form::Ex(_, _) | Form::AllType(_) => false,
     }
 }
 
-// Each of the premises is such a formula.
-#[tactic(auto, using(crate::proofs::LettersAlone::letters_here, crate::proofs::LettersAlone::letters_later, crate::proofs::LettersAlone::letters_end))]
-fn are_of_letters(premises: &[Premise]) -> bool
-    ensures { result ≡ all_of_letters (map premise_tree premises.now) }
-{
+fn are_plain(premises: &[Premise]) -> bool {
     for premise in premises {
-        if !is_of_letters(&premise.form) {
+        if !is_plain(&premise.form) {
             return false;
         }
     }
     true
 }
 
-/// The problem is one that is built: its premises and its conjecture have no quantifier and no equality, and their atoms no
-/// arguments.
-pub fn is_built(problem: &Problem) -> bool
-    ensures { result ≡ spec_is_built (problem_tree problem.now) }
-{
-    are_of_letters(problem.premises.as_slice()) && is_of_letters(&problem.conjecture)
+fn any_equality(premises: &[Premise]) -> bool {
+    for premise in premises {
+        if holds_equality(&premise.form) {
+            return true;
+        }
+    }
+    false
+}
+
+pub fn is_quantifier_free(problem: &Problem) -> bool {
+    are_plain(problem.premises.as_slice()) && is_plain(&problem.conjecture)
+}
+
+pub fn is_built(problem: &Problem) -> bool {
+    !any_equality(problem.premises.as_slice()) && !holds_equality(&problem.conjecture)
 }

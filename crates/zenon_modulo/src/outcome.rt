@@ -1,5 +1,6 @@
 use crate::words::UsageRefusal;
-use search::{Closed, Open, Tableau, Valuation, Why};
+use search::{Closed, Open, Tableau, Why};
+use valuation::Valuation;
 use tff_typing::TypeRefusal;
 use tptp_include::GatherRefusal;
 

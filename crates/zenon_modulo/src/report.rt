@@ -8,7 +8,9 @@ ghost use Rattle.zenon_modulo.specs.Text.{falsified_text as spec_falsified_text}
 
 use crate::outcome::Outcome;
 use crate::text::{falsified_text, proved_text, unknown_text};
-use search::{Closed, Open, Searched, Tableau, Valuation, Why, valuation_of};
+use crate::letters::is_quantifier_free;
+use search::{Closed, Open, Searched, Tableau, Why};
+use valuation::{Valuation, valuation_of};
 use std::alloc::{AllocError, Global};
 use zm_logic::Problem;
 
@@ -93,7 +95,7 @@ fn report_unknown(
     requires unsaturated { cause_of why ≢ Cause.saturated }
     ensures { IfOk result (λ r. IsReport steps (problem_tree problem.now) r.outcome r.text.items) }
 {
-    let text = unknown_text(alloc, why, &tableau)?;
+    let text = unknown_text(alloc, &why, &tableau)?;
     let outcome = Outcome::Unknown { why, tableau };
     Ok(reported(alloc, outcome, text))
 }
@@ -109,9 +111,19 @@ fn report_open(
     ensures { IfOk result (λ r. IsReport steps (problem_tree problem.now) r.outcome r.text.items) }
 {
     match why {
-        Why::Saturated => report_falsified(alloc, problem, steps, tableau),
+        Why::Saturated => {
+            if is_quantifier_free(problem) {
+                report_falsified(alloc, problem, steps, tableau)
+            } else {
+                report_unknown(alloc, problem, steps, Why::Saturated, tableau)
+            }
+        }
         Why::Steps => report_unknown(alloc, problem, steps, Why::Steps, tableau),
         Why::BranchLength => report_unknown(alloc, problem, steps, Why::BranchLength, tableau),
+        Why::Rewrites { from } => {
+            report_unknown(alloc, problem, steps, Why::Rewrites { from }, tableau)
+        }
+        Why::Deep { at } => report_unknown(alloc, problem, steps, Why::Deep { at }, tableau),
     }
 }
 

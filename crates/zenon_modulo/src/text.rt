@@ -4,7 +4,8 @@ ghost use Rattle.zenon_modulo.specs.Text as spec;
 
 use crate::names::push_atom;
 use itoa::Buffer;
-use search::{Closed, Open, Tableau, Valued, Why};
+use search::{Closed, Open, Tableau, Why};
+use valuation::Valued;
 use std::alloc::{AllocError, Global};
 use zm_logic::Symbol;
 
@@ -39,18 +40,20 @@ pub fn proved_text(alloc: Global, tableau: &Tableau<Closed>) -> Result<Vec<u8>, 
     Ok(text)
 }
 
-fn cause_text(why: Why) -> &'static [u8]
+fn cause_text(why: &Why) -> &'static [u8]
     ensures { result.now ≡ spec.cause_text (cause_of why) }
 {
     match why {
         Why::Saturated => b"saturated",
         Why::Steps => b"steps",
         Why::BranchLength => b"branch length",
+        Why::Rewrites { .. } => b"rewrites",
+        Why::Deep { .. } => b"depth",
     }
 }
 
 /// What is written for a search that stopped.
-pub fn unknown_text(alloc: Global, why: Why, tableau: &Tableau<Open>) -> Result<Vec<u8>, AllocError>
+pub fn unknown_text(alloc: Global, why: &Why, tableau: &Tableau<Open>) -> Result<Vec<u8>, AllocError>
     ensures { IfOk result (λ text. text.items ≡ spec.unknown_text (cause_of why) (tree_of tableau.now)) }
 {
     let picks = tableau.picks(alloc)?;

@@ -1,0 +1,9 @@
+mod branches;
+mod closing;
+mod drinker;
+mod entering;
+mod forms;
+mod formulas;
+mod listing;
+mod paths;
+mod trees;

@@ -1,0 +1,4 @@
+pub mod Unclosed
+pub mod Saturated
+pub mod Falsified
+pub mod Ground
