@@ -9,9 +9,9 @@ use Rattle.unify.specs.Unification.{UnifiesForms, UnifiesTerms}
 use Rattle.param_store.specs.RawOffers.{Raw, Quantified, one, two, signed, split, split_offers, quantified, is_quantified, own_part, number_of, at_part, opened, opened_offers}
 use Rattle.branch.specs.Branch.{add, extend}
 use Rattle.branch.specs.Setting.{Setting}
-use Rattle.branch.specs.Typed.{has_type}
-use Rattle.branch.specs.Instances.{InstancesOf, instance, instances, in_order, instance_of, opened_where}
-use Rattle.branch.specs.Pairs.{is_equality, FormsDiffer, TermsDiffer}
+use Rattle.equality_rules.specs.Typed.{has_type}
+use Rattle.equality_rules.specs.Instances.{InstancesOf, instance, instances, in_order, instance_of, opened_where}
+use Rattle.equality_rules.specs.Pairs.{is_equality, FormsDiffer, TermsDiffer}
 use Rattle.branch.specs.BranchOffers.{Kind, Entry, entries, split_kind, opened_kind, opened_entries, own_entries, instance_entries, BindingEntries, SingleEntries, PairEntries, PairsWith, EntriesFrom, has_equality, AreRawOffers}
 use Rattle.branch.specs.Tableau.{enter}
 use Rattle.branch.specs.EqualityFree.{holds_equality, AreEqualityFree}

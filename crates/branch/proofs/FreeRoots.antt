@@ -15,7 +15,7 @@ use Rattle.branch.proofs.Splits.{root_itself}
 use Rattle.branch.proofs.FreeBranches.{extend_free, extend_shallow}
 
 -- what premises and the negated conjecture have
-refuted_have : (P : Form → Type 0) (p : Problem) → ((q : Premise) → Contains p.premises q → P q.form) → P (Form.negation p.conjecture) → (f : Form) → Contains (refuted p) f → P f
+pub refuted_have : (P : Form → Type 0) (p : Problem) → ((q : Premise) → Contains p.premises q → P q.form) → P (Form.negation p.conjecture) → (f : Form) → Contains (refuted p) f → P f
 refuted_have P p h k f m =
     let of : Premise → Form = λ premise. premise.form in
     elim (Contains-append_cases (map of p.premises) (Form.negation p.conjecture ∷ []) f m) [
@@ -23,7 +23,7 @@ refuted_have P p h k f m =
       | inr i ↦ subst P (only (Form.negation p.conjecture) f i) k
     ]
 
-premise_is : (p : Problem) → IsTypedProblem p → (q : Premise) → Contains p.premises q → IsProblemForm p.symbols q.form
+pub premise_is : (p : Problem) → IsTypedProblem p → (q : Premise) → Contains p.premises q → IsProblemForm p.symbols q.form
 premise_is p typed q m = All-contains (λ x. IsProblemForm p.symbols x.form) p.premises q typed.premises m
 
 pub refuted_free : (p : Problem) → IsTypedProblem p → All IsQuantifierFree (refuted p) → AreQuantifierFree (refuted p)

@@ -47,6 +47,9 @@ pub mod Sizing
 pub mod Lasting
 pub mod Adding
 pub mod Useful
+pub mod Making
+pub mod OfferKinds
+pub mod Outcomes
 pub mod Numbered
 pub mod Ready
 pub mod Parted
@@ -55,3 +58,12 @@ pub mod Held
 pub mod Closes
 pub mod Entered
 pub mod States
+pub mod Begun
+pub mod FreeLeaves
+pub mod Filled
+pub mod CurrentLeaf
+pub mod SeenOffers
+pub mod OpenSteps
+pub mod Applying
+pub mod Ending
+pub mod LeafListed

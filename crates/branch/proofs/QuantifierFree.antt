@@ -10,9 +10,9 @@ use Rattle.unify.specs.Binding.{Binding}
 use Rattle.unify.specs.Unification.{UnifiesForms}
 use Rattle.param_store.specs.RawOffers.{Raw, on, split, split_offers, quantified}
 use Rattle.branch.specs.Setting.{Setting}
-use Rattle.branch.specs.Solved.{IsFirstDeepBinding}
-use Rattle.branch.specs.Instances.{InstancesOf, instances, in_order}
-use Rattle.branch.specs.Pairs.{is_equality, FormsDiffer}
+use Rattle.equality_rules.specs.Refused.{IsFirstDeepBinding}
+use Rattle.equality_rules.specs.Instances.{InstancesOf, instances, in_order}
+use Rattle.equality_rules.specs.Pairs.{is_equality, FormsDiffer}
 use Rattle.branch.specs.BranchOffers.{Entry, Placed, entries, split_kind, opened_entries, own_entries, instance_entries, BindingEntries, SingleEntries, PairEntries, PairsWith, EntriesFrom, has_equality, AreRawOffers}
 use Rattle.branch.specs.QuantifierFree.{AreQuantifierFree, split_at, splits_from, splits}
 use Rattle.branch.proofs.Unbound.{nothing_bound, opposites_plain}

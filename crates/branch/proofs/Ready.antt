@@ -14,10 +14,17 @@ use Rattle.param_store.proofs.Numbers.{same_id_true, has_with}
 use Rattle.param_store.proofs.Stay.{forms_still, forms_stay}
 use Rattle.equality_rules.specs.Pairs.{is_equality}
 use Rattle.branch.specs.BranchOffers.{has_equality}
-use Rattle.branch.specs.Listing.{IsReady}
+use Rattle.branch.specs.Listing.{AreNumbered, IsReady}
 
 pub none_ready : (s : Tables) → IsReady s [] []
 none_ready s = record { has = tt; numbered = tt; known = λ f c q. absurd (Contains-none f c); plain = refl }
+
+-- the quantified formulas of a branch keep their numbers while the store grows
+pub known_still : (s t : Tables) → Extends s t → (params forms : List FormId) → HasForms s params → HasForms s forms
+    → AreNumbered (forms_of s params) (forms_of s forms) → AreNumbered (forms_of t params) (forms_of t forms)
+known_still s t e params forms h k n =
+    subst (λ ps. AreNumbered ps (forms_of t forms)) (sym (forms_stay s t e params h))
+    (subst (AreNumbered (forms_of s params)) (sym (forms_stay s t e forms k)) n)
 
 has_push : (s : Tables) (ids : List FormId) (f : FormId) → HasForms s ids → HasForm s f → HasForms s (ids ++ f ∷ [])
 has_push s [] f h k = (k, tt)

@@ -14,9 +14,10 @@ use Rattle.unify.specs.Unification.{UnifiesForms}
 use Rattle.param_store.specs.RawOffers.{split}
 use Rattle.branch.specs.Setting.{Setting}
 use Rattle.branch.specs.Normal.{Made, Reaches, NormalizesFrom, MakesAll}
-use Rattle.branch.specs.Solved.{solved_depth, AreBounded}
-use Rattle.branch.specs.Instances.{InstancesOf}
-use Rattle.branch.specs.Pairs.{Opposites, alike, opposites, FormsDiffer}
+use Rattle.unify.specs.Answer.{solved_depth}
+use Rattle.equality_rules.specs.Refused.{AreBounded}
+use Rattle.equality_rules.specs.Instances.{InstancesOf}
+use Rattle.equality_rules.specs.Pairs.{Opposites, alike, opposites, FormsDiffer}
 use Rattle.branch.specs.BranchOffers.{Entry, Placed, own_entries, BindingEntries, SingleEntries, PairEntries, PairsWith, EntriesFrom, AreRawOffers}
 use Rattle.branch.specs.Offers.{MakesForm, MakesChild, MakesOffer, AreOffers}
 use Rattle.branch.specs.QuantifierFree.{AreQuantifierFree, AreShallow, split_at, splits_from, splits, unchanged, split_offer, useful_splits}

@@ -8,7 +8,7 @@ use Rattle.unify.specs.Substitution.{Substitution, put_type, put_types, put_term
 use Rattle.unify.specs.Equation.{Equation, TypeParts, TermParts, FormParts}
 use Rattle.unify.specs.Binding.{Binding}
 use Rattle.unify.specs.Unification.{Binds, Splits, Unifies, UnifiesForms}
-use Rattle.branch.specs.Pairs.{Opposites, alike, opposites, FormsDiffer}
+use Rattle.equality_rules.specs.Pairs.{Opposites, alike, opposites, FormsDiffer}
 
 abbrev IsPlain : Equation → Type 0
 IsPlain (Equation.of_types s t) = EachInType Never s × EachInType Never t

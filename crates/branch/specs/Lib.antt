@@ -1,11 +1,6 @@
 pub mod Setting
 pub mod Branch
 pub mod Denied
-pub mod Typed
-pub mod Solved
-pub mod Instances
-pub mod Equality
-pub mod Pairs
 pub mod BranchOffers
 pub mod Innermost
 pub mod Normal
@@ -30,3 +25,6 @@ pub mod Sizes
 pub mod Listing
 pub mod State
 pub mod Stepped
+pub mod Roots
+pub mod Causes
+pub mod Stepping

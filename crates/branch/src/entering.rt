@@ -11,8 +11,8 @@ use param_store::{Params, as_quantified};
 use std::alloc::AllocError;
 use term_store::{FormId, FormIds, Store};
 
-// Whether a formula stands in a list.
-fn has(store: &Store, forms: &[FormId], form: FormId) -> bool
+/// Whether a formula stands in a list.
+pub(crate) fn has(store: &Store, forms: &[FormId], form: FormId) -> bool
     requires forms { HasForms store.now forms.now }
     requires form { HasForm store.now form }
     ensures { result ≡ spec_has (forms_of store.now forms.now) (form_of store.now form) }

@@ -7,6 +7,7 @@ ghost use Rattle.branch.specs.Listed.{AreListed, IsListed, capped, forms_size, l
 ghost use Rattle.branch.specs.Left.{offer_at, offers_at};
 ghost use Rattle.branch.specs.Sizes.{KnowsSizes};
 
+use crate::entering::has;
 use crate::sizes::{Sizes, form_size};
 use choosers::{Kind, Offer};
 use param_store::{Act, FormLists, RawOffer};
@@ -61,9 +62,8 @@ fn has_all(store: &Store, branch: &[FormId], child: &[FormId]) -> bool
     requires has_child { HasForms store.now child.now }
     ensures { result ≡ offers.has_all (forms_of store.now branch.now) (forms_of store.now child.now) }
 {
-    store.shared();
     for form in child {
-        if !branch.contains(form) {
+        if !has(store, branch, *form) {
             return false;
         }
     }
@@ -93,7 +93,8 @@ fn child_size(store: &Store, kept: &mut Sizes, child: &[FormId]) -> Result<u64, 
 {
     let mut all: u64 = 0;
     for form in child {
-        all = all.saturating_add(form_size(store, kept, *form)?);
+        let size = form_size(store, kept, *form)?;
+        all = all.saturating_add(size);
     }
     Ok(all)
 }
@@ -107,7 +108,8 @@ fn children_size(store: &Store, kept: &mut Sizes, children: &[FormIds]) -> Resul
 {
     let mut all: u64 = 0;
     for child in children {
-        all = all.saturating_add(child_size(store, kept, child.as_slice())?);
+        let size = child_size(store, kept, child.as_slice())?;
+        all = all.saturating_add(size);
     }
     Ok(all)
 }
@@ -118,9 +120,40 @@ fn copied(alloc: Global, lists: &[FormIds]) -> Result<FormLists, AllocError>
 {
     let mut all = Items::new(alloc);
     for list in lists {
-        all.push(Items::from_slice(alloc, list.as_slice())?)?;
+        let copy = Items::from_slice(alloc, list.as_slice())?;
+        all.push(copy)?;
     }
     Ok(all)
+}
+
+// A raw offer of a known size, each of whose formulas is its own normal form.
+fn of_size(
+    alloc: Global,
+    store: &Store,
+    place: Place,
+    raw: &RawOffer,
+    size: u64,
+) -> Result<Listed, AllocError>
+    requires has { HasRaw store.now raw.now }
+    requires sized { size ≡ capped (lists_size (lists_of store.now raw.now.children)) }
+    ensures listed { IfOk result (IsListed store.now) }
+    ensures tree { IfOk result (λ l. listed_of store.now l ≡ offer_at (kind_of place.kind) place.later place.earlier (raw_of store.now raw.now)) }
+{
+    let children = raw.children.as_slice();
+    let formulas = copied(alloc, children)?;
+    let normal = copied(alloc, children)?;
+    Ok(Listed {
+        offer: Offer {
+            kind: place.kind,
+            children: children.len(),
+            size,
+            later: place.later,
+            earlier: place.earlier,
+        },
+        act: raw.act,
+        raw: formulas,
+        normal,
+    })
 }
 
 // A raw offer, each of whose formulas is its own normal form.
@@ -137,20 +170,8 @@ fn made(
     ensures tree { IfOk result (λ l. listed_of store.now l ≡ offer_at (kind_of place.kind) place.later place.earlier (raw_of store.now raw.now)) }
     ensures knows { OnOk result (KnowsSizes store.now kept.new) }
 {
-    let children = raw.children.as_slice();
-    let size = children_size(store, kept, children)?;
-    Ok(Listed {
-        offer: Offer {
-            kind: place.kind,
-            children: children.len(),
-            size,
-            later: place.later,
-            earlier: place.earlier,
-        },
-        act: raw.act,
-        raw: copied(alloc, children)?,
-        normal: copied(alloc, children)?,
-    })
+    let size = children_size(store, kept, raw.children.as_slice())?;
+    of_size(alloc, store, place, raw, size)
 }
 
 // Lists a raw offer, unless one of its children has all its formulas on the branch.

@@ -1,14 +1,18 @@
-ghost use Rattle.std.specs.Prelude.{◌≡◌, ◌<◌, ◌≤◌, false, [], List, map, length, OnOk, IfOk, IfErr};
+ghost use Rattle.std.specs.Prelude.{◌≡◌, ◌<◌, ◌≤◌, true, false, [], List, map, length, OnOk, IfOk, IfErr};
+ghost use Rattle.std.specs.List.{Contains};
 ghost use Rattle.zm_logic.specs.Tree as tree;
 ghost use Rattle.zm_logic.specs.View.{symbol_tree};
 ghost use Rattle.term_store.specs.Open.{HasRedex, redex_of};
 ghost use Rattle.term_store.specs.Trees.{Extends, HasForm, Tables, form_of};
-ghost use Rattle.param_store.specs.RawOffers.{own_offers as spec_own_offers};
-ghost use Rattle.param_store.specs.View.{HasForms, forms_of, raw_of};
+ghost use Rattle.term_store.specs.declared.opening.Redex.TheVariants.{OfForm};
+ghost use Rattle.param_store.specs.Depth.{deepest};
+ghost use Rattle.param_store.specs.Fault.{IfDeepAt};
+ghost use Rattle.param_store.specs.RawOffers.{is_quantified, own_offers as spec_own_offers};
+ghost use Rattle.param_store.specs.View.{AreRaws, HasForms, forms_of, raw_of, kind_of as quantifier_of};
 ghost use Rattle.branch.specs.Setting.{Setting};
 ghost use Rattle.branch.specs.Ids.{kind_of};
 ghost use Rattle.branch.specs.Normal.{Fault};
-ghost use Rattle.branch.specs.BranchOffers.{has_equality};
+ghost use Rattle.branch.specs.BranchOffers.{has_equality, split_kind as spec_split_kind, opened_kind as spec_opened_kind};
 ghost use Rattle.branch.specs.Offers.{AreOffers, HasFault};
 ghost use Rattle.branch.specs.Listed.{EachListed, IfStop, listed_of};
 ghost use Rattle.branch.specs.Left.{OwnAt, SingleAt, PairAt, PairsTo, OthersAt, PlaceAt, first_kind, own_kind as spec_own_kind};
@@ -19,20 +23,41 @@ use crate::listed::{Listed, Listing, Place, put_all};
 use crate::stop::BranchStop;
 use choosers::Kind;
 use equality_rules::{pair_offers, single_offers};
-use param_store::{Params, QuantifierKind, RawOffer, as_quantified};
+use param_store::{OfferFault, Params, QuantifierKind, RawOffer, RawOffers, as_quantified};
 use sqlite_items::Items;
 use std::alloc::Global;
 use tableau_rules::own_offers;
 use term_store::{FormId, Store};
 use zm_logic::Symbols;
 
+// The kind of an offer of an alpha or a beta formula, from its children.
+fn children_kind(raw: &RawOffer) -> Kind
+    ensures { (s : Tables) → kind_of result ≡ spec_split_kind (raw_of s raw.now).children }
+{
+    if raw.children.len() > 1 {
+        Kind::Beta
+    } else {
+        Kind::Alpha
+    }
+}
+
 // The kind of an alpha or a beta formula's offer.
 fn split_kind(raws: &[RawOffer]) -> Kind
     ensures { (s : Tables) → kind_of result ≡ first_kind (map (raw_of s) raws.now) }
 {
     match raws {
-        [raw, ..] if raw.children.len() > 1 => Kind::Beta,
-        _ => Kind::Alpha,
+        [raw, ..] => children_kind(raw),
+        [] => Kind::Alpha,
+    }
+}
+
+// The kind of a quantified formula's offer.
+fn opened_kind(kind: QuantifierKind) -> Kind
+    ensures { kind_of result ≡ spec_opened_kind (quantifier_of kind) }
+{
+    match kind {
+        QuantifierKind::Delta => Kind::Delta,
+        QuantifierKind::Gamma => Kind::Gamma,
     }
 }
 
@@ -42,12 +67,29 @@ fn own_kind(store: &Store, form: FormId, raws: &[RawOffer]) -> Kind
     ensures { (table : List tree.Form) → map (raw_of store.now) raws.now ≡ spec_own_offers table (form_of store.now form) → kind_of result ≡ spec_own_kind (form_of store.now form) }
 {
     match as_quantified(store, form) {
-        Some(quantified) => match quantified.kind {
-            QuantifierKind::Delta => Kind::Delta,
-            QuantifierKind::Gamma => Kind::Gamma,
-        },
+        Some(quantified) => opened_kind(quantified.kind),
         None => split_kind(raws),
     }
+}
+
+// The own offers of a formula, which has its number if it is quantified.
+fn own_raws(
+    alloc: Global,
+    store: &mut Store,
+    params: &mut Params,
+    form: FormId,
+) -> Result<RawOffers, OfferFault>
+    requires has { HasForm store.old form }
+    requires numbered { HasForms store.old params.old }
+    requires known { is_quantified (form_of store.old form) ≡ true → Contains (forms_of store.old params.old) (form_of store.old form) }
+    ensures offers { IfOk result (AreRaws store.new (spec_own_offers (forms_of store.new params.old) (form_of store.new form))) }
+    ensures bounded { OnOk result (deepest (spec_own_offers (forms_of store.old params.old) (form_of store.old form)) ≤ 2000) }
+    ensures deep { IfErr result (IfDeepAt (λ at. (at ≡ OfForm form) × (2000 < deepest (spec_own_offers (forms_of store.old params.old) (form_of store.old form))))) }
+    ensures kept { Extends store.old store.new }
+    ensures params { params.new ≡ params.old }
+{
+    store.shared();
+    own_offers(alloc, store, params, form)
 }
 
 // Lists the own offers of the formula at a place.
@@ -70,9 +112,8 @@ fn list_own(
     ensures kept { Extends store.old store.new }
     ensures params { params.new ≡ params.old }
 {
-    store.shared();
     let form = forms[later];
-    let raws = own_offers(alloc, store, params, form)?;
+    let raws = own_raws(alloc, store, params, form)?;
     let place = Place {
         kind: own_kind(store, form, raws.as_slice()),
         later,

@@ -51,6 +51,42 @@ fn kept_form(kept: &Sizes, id: FormId) -> Option<u64>
     kept.forms.get(&id).copied()
 }
 
+// Keeps the size of a type, and answers it.
+fn keep_type(store: &Store, kept: &mut Sizes, id: TyId, size: u64) -> Result<u64, AllocError>
+    requires has { HasType store.now id }
+    requires sized { size ≡ capped (measure.type_size (type_of store.now id)) }
+    requires knows { KnowsSizes store.now kept.old }
+    ensures value { IfOk result (λ n. n ≡ capped (measure.type_size (type_of store.now id))) }
+    ensures knows { OnOk result (KnowsSizes store.now kept.new) }
+{
+    kept.types.insert(id, size)?;
+    Ok(size)
+}
+
+// Keeps the size of a term, and answers it.
+fn keep_term(store: &Store, kept: &mut Sizes, id: TermId, size: u64) -> Result<u64, AllocError>
+    requires has { HasTerm store.now id }
+    requires sized { size ≡ capped (measure.term_size (term_of store.now id)) }
+    requires knows { KnowsSizes store.now kept.old }
+    ensures value { IfOk result (λ n. n ≡ capped (measure.term_size (term_of store.now id))) }
+    ensures knows { OnOk result (KnowsSizes store.now kept.new) }
+{
+    kept.terms.insert(id, size)?;
+    Ok(size)
+}
+
+// Keeps the size of a formula, and answers it.
+fn keep_form(store: &Store, kept: &mut Sizes, id: FormId, size: u64) -> Result<u64, AllocError>
+    requires has { HasForm store.now id }
+    requires sized { size ≡ capped (measure.size (form_of store.now id)) }
+    requires knows { KnowsSizes store.now kept.old }
+    ensures value { IfOk result (λ n. n ≡ capped (measure.size (form_of store.now id))) }
+    ensures knows { OnOk result (KnowsSizes store.now kept.new) }
+{
+    kept.forms.insert(id, size)?;
+    Ok(size)
+}
+
 // The size of a type. Each type is measured once.
 #[cycle(ty_size)]
 fn ty_size(store: &Store, kept: &mut Sizes, id: TyId) -> Result<u64, AllocError>
@@ -62,14 +98,36 @@ fn ty_size(store: &Store, kept: &mut Sizes, id: TyId) -> Result<u64, AllocError>
     if let Some(size) = kept_type(kept, id) {
         return Ok(size);
     }
-    let size = match store.ty_node(id) {
-        TyNode::Con(_, ids) => ty_sizes(store, kept, ids.as_slice())?.saturating_add(1),
-        TyNode::Bound(_) | TyNode::Param(_) | TyNode::Meta(_) => 1,
-    };
-    kept.types.insert(id, size)?;
-    Ok(size)
+    let size = new_ty_size(store, kept, id)?;
+    keep_type(store, kept, id, size)
 }
 
+// The size of a type that isn't kept.
+#[cycle(ty_size)]
+fn new_ty_size(store: &Store, kept: &mut Sizes, id: TyId) -> Result<u64, AllocError>
+    requires has { HasType store.now id }
+    requires knows { KnowsSizes store.now kept.old }
+    ensures value { IfOk result (λ n. n ≡ capped (measure.type_size (type_of store.now id))) }
+    ensures knows { OnOk result (KnowsSizes store.now kept.new) }
+{
+    match store.ty_node(id) {
+        TyNode::Con(_, ids) => symbol_size(store, kept, ids.as_slice()),
+        TyNode::Bound(_) | TyNode::Param(_) | TyNode::Meta(_) => Ok(1),
+    }
+}
+
+// The size of a type constructor or another symbol at its types.
+#[cycle(ty_size)]
+fn symbol_size(store: &Store, kept: &mut Sizes, ids: &[TyId]) -> Result<u64, AllocError>
+    requires below { TypesBelow (length store.now.types) ids.now }
+    requires knows { KnowsSizes store.now kept.old }
+    ensures value { IfOk result (λ n. n ≡ capped (1 + measure.types_size (types_at (all_trees store.now).types ids.now))) }
+    ensures knows { OnOk result (KnowsSizes store.now kept.new) }
+{
+    Ok(ty_sizes(store, kept, ids)?.saturating_add(1))
+}
+
+// The sum of the sizes of types.
 #[cycle(ty_size)]
 fn ty_sizes(store: &Store, kept: &mut Sizes, ids: &[TyId]) -> Result<u64, AllocError>
     requires below { TypesBelow (length store.now.types) ids.now }
@@ -79,7 +137,8 @@ fn ty_sizes(store: &Store, kept: &mut Sizes, ids: &[TyId]) -> Result<u64, AllocE
 {
     let mut all: u64 = 0;
     for id in ids {
-        all = all.saturating_add(ty_size(store, kept, *id)?);
+        let size = ty_size(store, kept, *id)?;
+        all = all.saturating_add(size);
     }
     Ok(all)
 }
@@ -105,15 +164,25 @@ fn term_size(store: &Store, kept: &mut Sizes, id: TermId) -> Result<u64, AllocEr
     if let Some(size) = kept_term(kept, id) {
         return Ok(size);
     }
-    let size = match store.term_node(id) {
+    let size = new_term_size(store, kept, id)?;
+    keep_term(store, kept, id, size)
+}
+
+// The size of a term that isn't kept.
+#[cycle(term_size)]
+fn new_term_size(store: &Store, kept: &mut Sizes, id: TermId) -> Result<u64, AllocError>
+    requires has { HasTerm store.now id }
+    requires knows { KnowsSizes store.now kept.old }
+    ensures value { IfOk result (λ n. n ≡ capped (measure.term_size (term_of store.now id))) }
+    ensures knows { OnOk result (KnowsSizes store.now kept.new) }
+{
+    match store.term_node(id) {
         TermNode::App(_, types, terms) => {
-            applied_size(store, kept, types.as_slice(), terms.as_slice())?
+            applied_size(store, kept, types.as_slice(), terms.as_slice())
         }
-        TermNode::Eps(_, ty) | TermNode::Meta(_, ty) => carried_size(store, kept, *ty)?,
-        TermNode::Bound(_) => 1,
-    };
-    kept.terms.insert(id, size)?;
-    Ok(size)
+        TermNode::Eps(_, ty) | TermNode::Meta(_, ty) => carried_size(store, kept, *ty),
+        TermNode::Bound(_) => Ok(1),
+    }
 }
 
 // The size of a symbol at its arguments.
@@ -130,11 +199,11 @@ fn applied_size(
     ensures value { IfOk result (λ n. n ≡ capped (1 + measure.types_size (types_at (all_trees store.now).types types.now) + measure.terms_size (terms_at (all_trees store.now).terms terms.now))) }
     ensures knows { OnOk result (KnowsSizes store.now kept.new) }
 {
-    let types = ty_sizes(store, kept, types)?;
-    let terms = term_sizes(store, kept, terms)?;
-    Ok(types.saturating_add(terms).saturating_add(1))
+    let first = symbol_size(store, kept, types)?;
+    Ok(first.saturating_add(term_sizes(store, kept, terms)?))
 }
 
+// The sum of the sizes of terms.
 #[cycle(term_size)]
 fn term_sizes(store: &Store, kept: &mut Sizes, ids: &[TermId]) -> Result<u64, AllocError>
     requires below { TermsBelow (length store.now.terms) ids.now }
@@ -144,7 +213,8 @@ fn term_sizes(store: &Store, kept: &mut Sizes, ids: &[TermId]) -> Result<u64, Al
 {
     let mut all: u64 = 0;
     for id in ids {
-        all = all.saturating_add(term_size(store, kept, *id)?);
+        let size = term_size(store, kept, *id)?;
+        all = all.saturating_add(size);
     }
     Ok(all)
 }
@@ -182,14 +252,13 @@ pub(crate) fn form_size(store: &Store, kept: &mut Sizes, id: FormId) -> Result<u
     if let Some(size) = kept_form(kept, id) {
         return Ok(size);
     }
-    let size = made_size(store, kept, id)?;
-    kept.forms.insert(id, size)?;
-    Ok(size)
+    let size = new_size(store, kept, id)?;
+    keep_form(store, kept, id, size)
 }
 
 // The size of a formula that isn't kept.
 #[cycle(form_size)]
-fn made_size(store: &Store, kept: &mut Sizes, id: FormId) -> Result<u64, AllocError>
+fn new_size(store: &Store, kept: &mut Sizes, id: FormId) -> Result<u64, AllocError>
     requires has { HasForm store.now id }
     requires knows { KnowsSizes store.now kept.old }
     ensures value { IfOk result (λ n. n ≡ capped (measure.size (form_of store.now id))) }

@@ -1,12 +1,23 @@
-ghost use Rattle.std.specs.Prelude.{◌≡◌, ◌≢◌, ◌<◌, ◌++◌, [], ◌∷◌, None, true, map, length, OnOk, OnErr, IfOk, IfErr};
-ghost use Rattle.param_store.specs.View.{HasForms, forms_of};
+ghost use Rattle.std.specs.Prelude.{◌≡◌, ◌≢◌, ◌<◌, ◌++◌, [], ◌∷◌, None, Some, true, map, length, slice_get, OnOk, OnErr, IfOk, IfErr};
+ghost use Rattle.zm_logic.specs.View.{symbol_tree};
+ghost use Rattle.term_store.specs.Open.{HasRedex, redex_of};
+ghost use Rattle.term_store.specs.Trees.{Extends};
+ghost use Rattle.param_store.specs.View.{HasForms, forms_of, lists_of};
 ghost use Rattle.branch.specs.Branch.{closing, extend};
+ghost use Rattle.branch.specs.Ids.{HasNode, child_ids, children_of as children_ids, node_ids};
+ghost use Rattle.branch.specs.Normal.{Fault};
+ghost use Rattle.branch.specs.Offers.{HasFault};
+ghost use Rattle.branch.specs.Path.{IsFirst, along, extend_all, put};
+ghost use Rattle.branch.specs.Setting.{Setting};
 ghost use Rattle.branch.specs.Tableau as spec;
 ghost use Rattle.branch.specs.Listed.{IfStop};
+ghost use Rattle.branch.specs.Listing.{IsReady};
 ghost use Rattle.branch.specs.State.{tree};
 ghost use Rattle.branch.specs.Stepped.{IsOpen, IsUnclosed, AtLeaf, HasOffer, IsApplied, IsClosedAt, IsSame, AreOffersSeen, IsTooDeep};
+ghost use Rattle.branch.specs.Stepping.{AreOffersOf, CanTake, ClosesCurrent, GoesTo, HasListed, IsLeaf, IsListedAt, IsListing, open_leaf, open_leaves, step_ids};
 
 use crate::along::{add_along, brought};
+use crate::closing::closing_pair;
 use crate::entering::{add_all, number_all};
 use crate::listed::Listed;
 use crate::listing::listed_offers;
@@ -14,8 +25,8 @@ use crate::stop::BranchStop;
 use crate::next::next_path;
 use crate::node::{Child, ClosingPair, Node};
 use crate::place::put_at;
-use crate::start::{branch_of, root_forms};
-use crate::tableau::{Current, Offered, Open, Tableau};
+use crate::start::root_forms;
+use crate::tableau::{Branch, Current, Offered, Open, Rooted, Tableau};
 use choosers::Offer;
 use param_store::Params;
 use sqlite_items::Items;
@@ -36,13 +47,19 @@ fn seen(alloc: Global, listed: &[Listed]) -> Result<Items<Offer>, AllocError>
 }
 
 // The offers of a branch.
-fn offered(
+fn offers_of(
     alloc: Global,
     store: &mut Store,
     params: &mut Params,
     symbols: &Symbols,
     branch: &[FormId],
-) -> Result<Offered, BranchStop> {
+) -> Result<Offered, BranchStop>
+    requires ready { IsReady store.old params.old branch.now }
+    ensures offers { IfOk result (AreOffersOf store.new (map symbol_tree symbols.now) params.new branch.now) }
+    ensures deep { IfErr result (IfStop (λ at. HasRedex store.new at × ((s : Setting) → s.symbols ≡ map symbol_tree symbols.now → s.rules ≡ [] → HasFault s (forms_of store.new params.new) (forms_of store.new branch.now) (Fault.deep (redex_of store.new at))))) }
+    ensures kept { Extends store.old store.new }
+    ensures params { params.new ≡ params.old }
+{
     let listed = listed_offers(alloc, store, params, symbols, branch)?;
     let seen = seen(alloc, listed.as_slice())?;
     Ok(Offered { seen, listed })
@@ -65,30 +82,59 @@ fn extended(
     Ok(forms)
 }
 
+// A child of an offer, as an Open leaf.
+fn open_child(alloc: Global, raw: &[FormId], normal: &[FormId]) -> Result<Child, AllocError>
+    ensures { IfOk result (λ c. child_ids c ≡ open_leaf raw.now normal.now) }
+{
+    let raw = FormIds::from_slice(alloc, raw)?;
+    let normal = FormIds::from_slice(alloc, normal)?;
+    Ok(Child {
+        raw,
+        normal,
+        node: Node::Open,
+    })
+}
+
 // The children of an offer, as Open leaves.
-fn children_of(alloc: Global, listed: &Listed) -> Result<Vec<Child>, AllocError> {
+fn open_children(
+    alloc: Global,
+    raw: &[FormIds],
+    normal: &[FormIds],
+) -> Result<Vec<Child>, AllocError>
+    requires { length normal.now ≡ length raw.now }
+    ensures { IfOk result (λ cs. map child_ids cs.items ≡ open_leaves raw.now normal.now) }
+{
     let mut children = Vec::new(alloc);
-    for (raw, normal) in listed.raw.as_slice().iter().zip(listed.normal.as_slice()) {
-        let raw = FormIds::from_slice(alloc, raw.as_slice())?;
-        let normal = FormIds::from_slice(alloc, normal.as_slice())?;
-        children.push(Child {
-            raw,
-            normal,
-            node: Node::Open,
-        })?;
+    for place in 0..raw.len() {
+        children.push(open_child(
+            alloc,
+            raw[place].as_slice(),
+            normal[place].as_slice(),
+        )?)?;
     }
     Ok(children)
 }
 
 // The Step that takes an offer, with Open leaves below it.
-fn step(alloc: Global, pick: usize, listed: &Listed) -> Result<Node, AllocError> {
-    let children = children_of(alloc, listed)?;
+fn step(alloc: Global, pick: usize, listed: &Listed) -> Result<Node, AllocError>
+    requires { length listed.now.normal ≡ length listed.now.raw }
+    ensures { IfOk result (λ n. node_ids n ≡ step_ids pick listed.now) }
+{
+    let children = open_children(alloc, listed.raw.as_slice(), listed.normal.as_slice())?;
     Ok(Node::Step {
         pick,
         kind: listed.offer.kind,
         act: listed.act,
         children,
     })
+}
+
+// The normal formulas of an offer's first child.
+fn first_of(listed: &Listed) -> &[FormId]
+    requires { 0 < length listed.now.normal }
+    ensures { slice_get listed.now.normal 0 ≡ Some result.now }
+{
+    listed.normal.as_slice()[0].as_slice()
 }
 
 // The path to the first child of the node to which a path leads.
@@ -107,62 +153,119 @@ fn note(
     forms: &[FormId],
     picks: &mut Items<usize>,
     pick: usize,
-) -> Result<(), AllocError> {
+) -> Result<(), AllocError>
+    requires numbered { HasForms store.now params.old }
+    requires forms { HasForms store.now forms.now }
+    ensures entered { OnOk result (forms_of store.now params.new ≡ spec.enter (forms_of store.now params.old) (forms_of store.now forms.now)) }
+    ensures has { HasForms store.now params.new }
+    ensures picked { OnOk result (picks.new ≡ picks.old ++ pick ∷ []) }
+    ensures unnumbered { OnErr result (params.new ≡ params.old) }
+    ensures unpicked { OnErr result (picks.new ≡ picks.old) }
+{
     picks.push(pick)?;
-    if number_all(store, params, forms).is_err() {
-        let _ = picks.pop();
-        return Err(AllocError);
+    match number_all(store, params, forms) {
+        Ok(()) => Ok(()),
+        Err(fault) => {
+            let _ = picks.pop();
+            Err(fault)
+        }
     }
-    Ok(())
 }
 
-// What takes the place of a leaf: a node, and the leaf that is current then.
-#[derive(Drop)]
-struct Next {
-    node: Node,
-    current: Current,
+// A leaf with this branch, without offers.
+fn leaf_of(store: &Store, path: Items<usize>, forms: FormIds) -> Current
+    requires { HasForms store.now forms }
+    ensures { IsLeaf store.now path (forms_of store.now forms) result }
+{
+    let closing = closing_pair(store, forms.as_slice());
+    Current {
+        path,
+        branch: Branch { forms, closing },
+        offered: None,
+    }
 }
 
-// The Step that takes an offer of a leaf, with its first child.
-fn next_of(
+// The first child of a Step that stands in the place of a leaf.
+fn leaf_below(
     alloc: Global,
     store: &Store,
     current: &Current,
-    pick: usize,
-    listed: &Listed,
     first: &[FormId],
-) -> Result<Next, AllocError> {
-    let node = step(alloc, pick, listed)?;
+) -> Result<Current, AllocError>
+    requires has { HasForms store.now current.now.branch.forms }
+    requires has_first { HasForms store.now first.now }
+    ensures { IfOk result (IsLeaf store.now (current.now.path ++ 0 ∷ []) (extend (forms_of store.now current.now.branch.forms) (forms_of store.now first.now))) }
+{
     let path = down(alloc, current.path.as_slice())?;
     let forms = extended(alloc, store, current.branch.forms.as_slice(), first)?;
-    let branch = branch_of(store, forms);
-    let offered = None;
-    Ok(Next {
-        node,
-        current: Current {
-            path,
-            branch,
-            offered,
-        },
-    })
+    Ok(leaf_of(store, path, forms))
+}
+
+// The leaf to which a path leads.
+fn leaf_along(
+    alloc: Global,
+    store: &Store,
+    roots: &[Rooted],
+    tree: &Node,
+    path: Items<usize>,
+) -> Result<Current, AllocError>
+    requires has_roots { HasForms store.now (map (λ r. r.normal) roots.now) }
+    requires has_node { HasNode store.now (node_ids tree.now) }
+    ensures { IfOk result (IsLeaf store.now path (extend_all (extend [] (forms_of store.now (map (λ r. r.normal) roots.now))) (lists_of store.now (along path (node_ids tree.now))))) }
+{
+    let mut forms = root_forms(alloc, store, roots)?;
+    add_along(store, &mut forms, tree, path.as_slice())?;
+    Ok(leaf_of(store, path, forms))
+}
+
+// The offer of a leaf with this number.
+fn listed_at(current: &Current, pick: usize) -> &Listed
+    requires { HasListed current.now pick }
+    ensures { IsListedAt current.now pick result.now }
+{
+    &current.offered.as_ref().unwrap().listed.as_slice()[pick]
+}
+
+// Puts a node in the place of the leaf to which a path leads.
+fn put_in_place(tree: &mut Node, path: &[usize], new: Node)
+    requires { IsFirst path.now (node_ids tree.old) }
+    ensures { node_ids tree.new ≡ put path.now (node_ids new) (node_ids tree.old) }
+{
+    let old = mem::replace(tree, Node::Open);
+    *tree = put_at(old, path, new);
 }
 
 impl Tableau<Open> {
     // Lists the offers of the current branch, unless they are listed.
-    fn list(&mut self) -> Result<(), BranchStop> {
-        let Some(current) = &mut self.current else {
+    fn list(&mut self) -> Result<(), BranchStop>
+        requires { IsOpen self.old }
+        ensures listed { OnOk result (IsListing self.new) }
+        ensures stop { IfErr result (IfStop (IsTooDeep self.new)) }
+        ensures same { IsSame self.old self.new }
+    {
+        let current = self.current.as_mut().unwrap();
+        if current.offered.is_some() {
             return Ok(());
-        };
-        if current.offered.is_none() {
-            current.offered = Some(offered(
-                self.alloc,
-                &mut self.store,
-                &mut self.params,
-                &self.symbols,
-                current.branch.forms.as_slice(),
-            )?);
         }
+        let offered = offers_of(
+            self.alloc,
+            &mut self.store,
+            &mut self.params,
+            &self.symbols,
+            current.branch.forms.as_slice(),
+        )?;
+        current.offered = Some(offered);
         Ok(())
+    }
+
+    // The listed offers of the current branch.
+    fn listed(&self) -> &[Offer]
+        requires open { IsOpen self.now }
+        requires listed { IsListing self.now }
+        ensures { AreOffersSeen self.now result.now }
+    {
+        let current = self.current.as_ref().unwrap();
+        current.offered.as_ref().unwrap().seen.as_slice()
     }
 
     /// The offers of the current branch, in order.
@@ -174,8 +277,28 @@ impl Tableau<Open> {
         ensures same { IsSame self.old self.new }
     {
         self.list()?;
+        Ok(self.listed())
+    }
+
+    // Puts the Step that takes a listed offer, and goes to its first child.
+    fn take(&mut self, pick: usize) -> Result<(), AllocError>
+        requires open { IsOpen self.old }
+        requires unclosed { IsUnclosed self.old }
+        requires listed { CanTake self.old pick }
+        requires short { AtLeaf self.old (λ leaf. leaf.above < 512) }
+        requires few { spec.count (tree self.old) < 1000000 }
+        ensures applied { OnOk result (IsApplied self.old pick self.new) }
+        ensures refused { OnErr result (self.new ≡ self.old) }
+    {
         let current = self.current.as_ref().unwrap();
-        Ok(current.offered.as_ref().unwrap().seen.as_slice())
+        let listed = listed_at(current, pick);
+        let first = first_of(listed);
+        let node = step(self.alloc, pick, listed)?;
+        let below = leaf_below(self.alloc, &self.store, current, first)?;
+        note(&self.store, &mut self.params, first, &mut self.picks, pick)?;
+        put_in_place(&mut self.tree, current.path.as_slice(), node);
+        self.current = Some(below);
+        Ok(())
     }
 
     /// Puts the Step that takes the offer of this number, and goes to its first child.
@@ -188,43 +311,42 @@ impl Tableau<Open> {
         ensures applied { OnOk result (IsApplied self.old pick self.new) }
         ensures refused { OnErr result (IsSame self.old self.new) }
     {
-        if self.list().is_err() {
-            return Err(AllocError);
+        match self.list() {
+            Ok(()) => self.take(pick),
+            Err(_) => Err(AllocError),
         }
-        let current = self.current.as_ref().unwrap();
-        let listed = &current.offered.as_ref().unwrap().listed.as_slice()[pick];
-        let first = listed.normal.as_slice()[0].as_slice();
-        let next = next_of(self.alloc, &self.store, current, pick, listed, first)?;
-        note(&self.store, &mut self.params, first, &mut self.picks, pick)?;
-        let tree = mem::replace(&mut self.tree, Node::Open);
-        self.tree = put_at(tree, current.path.as_slice(), next.node);
-        self.current = Some(next.current);
-        Ok(())
     }
 
     // Closes the current leaf, and goes to the one to which a path leads.
-    fn go_on(&mut self, pair: ClosingPair, path: Items<usize>) -> Result<(), AllocError> {
-        let mut forms = root_forms(self.alloc, &self.store, self.roots.as_slice())?;
-        add_along(&self.store, &mut forms, &self.tree, path.as_slice())?;
-        let brought = brought(&self.tree, path.as_slice());
-        number_all(&self.store, &mut self.params, brought)?;
-        let branch = branch_of(&self.store, forms);
-        let tree = mem::replace(&mut self.tree, Node::Open);
-        let old = self.current.as_ref().unwrap();
-        self.tree = put_at(tree, old.path.as_slice(), Node::Closed(pair));
-        self.current = Some(Current {
+    fn go_on(&mut self, pair: ClosingPair, path: Items<usize>) -> Result<(), AllocError>
+        requires closes { ClosesCurrent self.old pair }
+        requires behind { GoesTo self.old (Some path) }
+        ensures closed { OnOk result (IsClosedAt self.old self.new) }
+        ensures refused { OnErr result (self.new ≡ self.old) }
+    {
+        let current = self.current.as_ref().unwrap();
+        let behind = leaf_along(
+            self.alloc,
+            &self.store,
+            self.roots.as_slice(),
+            &self.tree,
             path,
-            branch,
-            offered: None,
-        });
+        )?;
+        let forms = brought(&self.tree, behind.path.as_slice());
+        number_all(&self.store, &mut self.params, forms)?;
+        put_in_place(&mut self.tree, current.path.as_slice(), Node::Closed(pair));
+        self.current = Some(behind);
         Ok(())
     }
 
     // Closes the current leaf, behind which there is none.
-    fn end(&mut self, pair: ClosingPair) {
-        let tree = mem::replace(&mut self.tree, Node::Open);
-        let old = self.current.as_ref().unwrap();
-        self.tree = put_at(tree, old.path.as_slice(), Node::Closed(pair));
+    fn end(&mut self, pair: ClosingPair)
+        requires closes { ClosesCurrent self.old pair }
+        requires behind { GoesTo self.old None }
+        ensures { IsClosedAt self.old self.new }
+    {
+        let current = self.current.as_ref().unwrap();
+        put_in_place(&mut self.tree, current.path.as_slice(), Node::Closed(pair));
         self.current = None;
     }
 

@@ -1,2 +1,4 @@
 pub mod Need
 pub mod Laws
+pub mod OpenLeaves
+pub mod Searched

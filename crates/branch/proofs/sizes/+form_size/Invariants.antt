@@ -6,8 +6,8 @@ use Rattle.branch.proofs.sizes.+form_size.Given as goal
 abbrev pub decreases-form_size : goal.decreases-form_size
 decreases-form_size l = 3 * depth (form_of l.store.now l.id) + 1
 
-abbrev pub decreases-made_size : goal.decreases-made_size
-decreases-made_size l = 3 * depth (form_of l.store.now l.id)
+abbrev pub decreases-new_size : goal.decreases-new_size
+decreases-new_size l = 3 * depth (form_of l.store.now l.id)
 
 abbrev pub decreases-one_size : goal.decreases-one_size
 decreases-one_size l = 3 * depth (form_of l.store.now l.f) + 2

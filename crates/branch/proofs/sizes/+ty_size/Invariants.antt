@@ -7,10 +7,16 @@ use Rattle.branch.specs.Sizes.{KnowsSizes}
 use Rattle.branch.proofs.sizes.+ty_size.Given as goal
 
 abbrev pub decreases-ty_size : goal.decreases-ty_size
-decreases-ty_size l = 2 * type_depth (type_of l.store.now l.id)
+decreases-ty_size l = 4 * type_depth (type_of l.store.now l.id) + 1
+
+abbrev pub decreases-new_ty_size : goal.decreases-new_ty_size
+decreases-new_ty_size l = 4 * type_depth (type_of l.store.now l.id)
+
+abbrev pub decreases-symbol_size : goal.decreases-symbol_size
+decreases-symbol_size l = 4 * types_depth (types_at (all_trees l.store.now).types l.ids.now) + 3
 
 abbrev pub decreases-ty_sizes : goal.decreases-ty_sizes
-decreases-ty_sizes l = 2 * types_depth (types_at (all_trees l.store.now).types l.ids.now) + 1
+decreases-ty_sizes l = 4 * types_depth (types_at (all_trees l.store.now).types l.ids.now) + 2
 
 -- the sum of the sizes up to the index
 abbrev pub invariant-ty_sizes-loop-id : goal.invariant-ty_sizes-loop-id
