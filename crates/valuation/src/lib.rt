@@ -3,6 +3,8 @@
 #![tactic(auto)]
 
 pub mod laws;
+mod truth;
 mod valued;
 
+pub use truth::eval;
 pub use valued::{Valuation, Valued, valuation_of};
