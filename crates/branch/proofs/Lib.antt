@@ -67,3 +67,4 @@ pub mod OpenSteps
 pub mod Applying
 pub mod Ending
 pub mod LeafListed
+pub mod SameState

@@ -4,9 +4,10 @@ mod ClapOptions
 mod Commands
 mod Dashes
 mod FileText
-mod LettersAlone
 mod OneReading
 mod Picks
 mod Printed
 mod SymbolNames
 mod TextAnswered
+mod Found
+mod PlainProblems

@@ -1,7 +1,6 @@
 pub mod Answer
 pub mod Input
 pub mod Laws
-pub mod Letters
 pub mod Message
 pub mod Names
 pub mod Outcome
@@ -10,3 +9,4 @@ pub mod Text
 pub mod Words
 pub mod WordsRead
 pub mod Writing
+pub mod Fragments

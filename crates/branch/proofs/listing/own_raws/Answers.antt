@@ -1,8 +1,4 @@
-<<<<<<< HEAD
 use Rattle.std.proofs.Common.{◌≡◌, IfOk, sym, subst, ◌∙◌}
-=======
-use Rattle.std.proofs.Common.{IfOk, subst, ◌∙◌}
->>>>>>> 0dbb8f3105ecda4ef8a6e14225f18815d64de483
 use Rattle.std.proofs.lemmas.Result.{on_ok_weaker}
 use Rattle.term_store.specs.Trees.{form_of}
 use Rattle.param_store.specs.RawOffers.{own_offers}
