@@ -1,8 +1,8 @@
 -- The offers of a branch over ids, one part after another.
-use Rattle.std.proofs.Common.{ℕ, zero, suc, ◌≡◌, ◌+◌, ◌<◌, ◌≤◌, Bool, false, Option, None, Some, List, [], ◌∷◌, ◌++◌, length, get_or, map, append_assoc, append-nil, refl, ap, sym, subst, ◌∙◌, arith}
+use Rattle.std.proofs.Common.{ℕ, zero, suc, ◌≡◌, ◌<◌, ◌≤◌, false, Option, None, Some, List, [], ◌∷◌, ◌++◌, length, get_or, map, append_assoc, append-nil, refl, ap, sym, subst, ◌∙◌, arith}
 use Rattle.zm_logic.specs.Tree.{Form, Side, Symbol}
 use Rattle.term_store.specs.Trees.{Tables, HasForm, form_of, Extends}
-use Rattle.term_store.specs.Open.{HasRedex, redex_of}
+use Rattle.term_store.specs.Open.{redex_of}
 use Rattle.term_store.specs.declared.ids.FormId.{FormId}
 use Rattle.term_store.specs.declared.opening.Redex.{Redex}
 use Rattle.term_store.specs.declared.opening.Redex.TheVariants as redexes
@@ -10,7 +10,7 @@ use Rattle.term_store.proofs.Kept.{still_form, kept_form}
 use Rattle.param_store.specs.RawOffers.{Raw, own_offers}
 use Rattle.param_store.specs.Depth.{deepest}
 use Rattle.param_store.specs.Fault.{IfDeepAt}
-use Rattle.param_store.specs.View.{forms_of, raw_of, HasForms, AreForms, AreRaws}
+use Rattle.param_store.specs.View.{forms_of, raw_of, HasForms, AreRaws}
 use Rattle.param_store.specs.declared.offer.RawOffer.{RawOffer}
 use Rattle.param_store.specs.declared.fault.OfferFault.{OfferFault}
 use Rattle.param_store.specs.declared.fault.OfferFault.TheVariants as faults
@@ -27,7 +27,7 @@ use Rattle.branch.specs.BranchOffers.{Kind, Entry, own_entries, instance_entries
 use Rattle.branch.specs.Offers.{Offer}
 use Rattle.branch.specs.Left.{AreLeft, Fails, own_kind, form_at, offers_at, OwnAt, SingleAt, PairAt}
 use Rattle.branch.specs.Listed.{AreListed, IfStop, stop_of}
-use Rattle.branch.specs.Listing.{IsCase, Adds, AddsPart, IsTooDeep}
+use Rattle.branch.specs.Listing.{IsCase, AddsPart, IsTooDeep}
 use Rattle.branch.proofs.Unchanged.{entries_left, instances_left, none_left, both_left}
 use Rattle.branch.proofs.Together.{fails_then, fails_after}
 use Rattle.branch.proofs.Refusing.{own_entries_are, single_entries, pair_entries, single_fails, pair_fails, own_fails}

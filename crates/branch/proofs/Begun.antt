@@ -1,6 +1,5 @@
 -- A tableau that is begun: the ids of its formulas, and its one Open leaf.
-use Rattle.std.proofs.Common.{◌≡◌, ℕ, zero, suc, ◌+◌, ◌<◌, ◌≤◌, refl, ap, sym, subst, ◌∙◌, arith, false, List, [], ◌∷◌, ◌++◌, length, get_or, take, Option, None, Some, IfSome, All, map}
-use Rattle.std.specs.Option.{option_map}
+use Rattle.std.proofs.Common.{◌≡◌, ℕ, zero, suc, ◌+◌, ◌<◌, ◌≤◌, refl, ap, sym, subst, ◌∙◌, arith, false, List, [], ◌∷◌, ◌++◌, length, get_or, take, All, map}
 use Rattle.std.proofs.lemmas.List.{map-append, take_more}
 use Rattle.std.proofs.lemmas.List.Elements.{All-nil, All-cons, All-head, All-tail}
 use Rattle.zm_logic.specs.Tree.{Form}
@@ -18,48 +17,51 @@ use Rattle.term_store.specs.Trees.{Tables, Extends, HasForm, form_of}
 use Rattle.term_store.specs.declared.ids.FormId.{FormId}
 use Rattle.param_store.specs.View.{forms_of, HasForms}
 use Rattle.param_store.proofs.Stay.{forms_still, forms_stay}
-use Rattle.branch.specs.declared.node.Node as code
-use Rattle.branch.specs.declared.node.Node.TheFolds.{fold-roll-Node}
-use Rattle.branch.specs.declared.node.Node.TheOpen as layer
 use Rattle.branch.specs.declared.tableau.Rooted.{Rooted}
-use Rattle.branch.specs.declared.tableau.Branch.{Branch}
-use Rattle.branch.specs.Branch.{closing, extend}
+use Rattle.branch.specs.Branch.{extend}
 use Rattle.branch.specs.Setting.{Setting}
 use Rattle.branch.specs.Sound.{AreGiven}
 use Rattle.branch.specs.EqualityFree.{AreEqualityFree}
-use Rattle.branch.specs.Tableau as tableau
-use Rattle.branch.specs.Tableau.{IsTableau, current_leaf, enter, count, picks}
-use Rattle.branch.specs.Ids.{Node, Child, node_layer, child_layer, node_ids, tree_of, closing_of, HasNode, HasClosing}
-use Rattle.branch.specs.State.{State, setting, root, IsKept}
+use Rattle.branch.specs.Ids.{tree_of}
+use Rattle.branch.specs.State.{State}
 use Rattle.branch.specs.Stepped.{IsStarted}
 use Rattle.branch.specs.Roots.{AreRoots, IsOneLeaf, MayBegin, premise_forms, refuted_forms}
 use Rattle.branch.proofs.Held.{held_push}
 use Rattle.branch.proofs.Entered.{extend_push}
-use Rattle.branch.proofs.FreeRoots.{refuted_have, premise_is}
+use Rattle.branch.proofs.Refuted.{refuted_have, premise_is}
 
 -- no formulas yet
 pub no_roots : (s : Tables) → AreRoots s [] []
 no_roots s = record { has = tt; forms = refl; normal = refl }
 
 -- one formula more, as the store grows
-pub root_added : (s t : Tables) → Extends s t → (fs : List Form) (rs : List Rooted) (f : Form) (r : Rooted) → AreRoots s fs rs
-    → HasForm t r.given → form_of t r.given ≡ f → r.normal ≡ r.given → AreRoots t (fs ++ f ∷ []) (rs ++ r ∷ [])
-root_added s t e fs rs f r a h k n =
+pub root_added : (s t : Tables) → Extends s t → (fs : List Form) (rs now : List Rooted) (f : Form) (r : Rooted) (id : FormId) → AreRoots s fs rs
+    → HasForm t id → form_of t id ≡ f → (r.given ≡ id) × (r.normal ≡ id) → now ≡ rs ++ r ∷ [] → AreRoots t (fs ++ f ∷ []) now
+root_added s t e fs rs now f r id a h k n pushed =
     let of : Rooted → FormId = λ x. x.given in
     let to : Rooted → FormId = λ x. x.normal in
     let ids : map of (rs ++ r ∷ []) ≡ map of rs ++ r.given ∷ [] = map-append of rs (r ∷ []) in
-    record {
-      has = subst (HasForms t) (sym ids) (held_push t (map of rs) r.given (forms_still s t e (map of rs) a.has) h);
+    let more : AreRoots t (fs ++ f ∷ []) (rs ++ r ∷ []) = record {
+      has = subst (HasForms t) (sym ids) (held_push t (map of rs) r.given (forms_still s t e (map of rs) a.has) (subst (HasForm t) (sym n.0) h));
       forms = ap (forms_of t) ids ∙ map-append (form_of t) (map of rs) (r.given ∷ [])
           ∙ ap (λ x. x ++ form_of t r.given ∷ []) (forms_stay s t e (map of rs) a.has ∙ a.forms)
-          ∙ ap (λ x. fs ++ x ∷ []) k;
-      normal = map-append to rs (r ∷ []) ∙ ap (λ x. x ++ r.normal ∷ []) a.normal ∙ ap (λ x. map of rs ++ x ∷ []) n ∙ sym ids;
-    }
+          ∙ ap (λ x. fs ++ x ∷ []) (ap (form_of t) n.0 ∙ k);
+      normal = map-append to rs (r ∷ []) ∙ ap (λ x. x ++ r.normal ∷ []) a.normal ∙ ap (λ x. map of rs ++ x ∷ []) (n.1 ∙ sym n.0) ∙ sym ids;
+    } in
+    subst (AreRoots t (fs ++ f ∷ [])) (sym pushed) more
 
 -- the formulas of the premises up to a place of a loop
 pub premises_front : (ps : List Premise) (i : ℕ) (d : Premise) → i < length ps
     → premise_forms (take (i + 1) ps) ≡ premise_forms (take i ps) ++ form_tree (get_or ps i d).form ∷ []
 premises_front ps i d l = ap premise_forms (take_more ps i d l) ∙ map-append (λ p. form_tree p.form) (take i ps) (get_or ps i d ∷ [])
+
+-- the formula of the premise at a place of a loop more
+pub premise_added : (s t : Tables) → Extends s t → (ps : List Premise) (i : ℕ) (d : Premise) (rs now : List Rooted) (r : Rooted) (id : FormId) → i < length ps
+    → AreRoots s (premise_forms (take i ps)) rs → HasForm t id → form_of t id ≡ form_tree (get_or ps i d).form → (r.given ≡ id) × (r.normal ≡ id)
+    → now ≡ rs ++ r ∷ [] → AreRoots t (premise_forms (take (i + 1) ps)) now
+premise_added s t e ps i d rs now r id l a h k n pushed =
+    subst (λ fs. AreRoots t fs now) (sym (premises_front ps i d l))
+    (root_added s t e (premise_forms (take i ps)) rs now (form_tree (get_or ps i d).form) r id a h k n pushed)
 
 -- the branch with the normal forms up to a place of a loop
 pub normals_front : (s : Tables) (rs : List Rooted) (i : ℕ) (d : Rooted) → i < length rs
@@ -68,7 +70,7 @@ pub normals_front : (s : Tables) (rs : List Rooted) (i : ℕ) (d : Rooted) → i
 normals_front s rs i d l =
     let to : Rooted → FormId = λ x. x.normal in
     let more : map to (take (i + 1) rs) ≡ map to (take i rs) ++ (get_or rs i d).normal ∷ [] =
-        ap (map to) (take_more rs i d l) ∙ map-append to (take i rs) (get_or rs i d ∷ []) in
+    ap (map to) (take_more rs i d l) ∙ map-append to (take i rs) (get_or rs i d ∷ []) in
     ap (λ x. extend [] (forms_of s x)) more
     ∙ ap (extend []) (map-append (form_of s) (map to (take i rs)) ((get_or rs i d).normal ∷ []))
     ∙ extend_push [] (forms_of s (map to (take i rs))) (form_of s (get_or rs i d).normal)
@@ -130,63 +132,3 @@ is_started p symbols rewrites store roots t e are one = record {
       ∙ are.forms ∙ sym (refuted_is p);
   one = ap (tree_of t.store) one.one;
 }
-
-pub open_ids : node_ids code.Open ≡ Node.opened
-unfolding code.roll-Node denote.Hole.Carrier.roll
-open_ids = fold-roll-Node Node Child node_layer child_layer layer.Open
-
-pub has_normals : (symbols : List Symbol) (rewrites : ℕ) (store : Tables) (roots : List Rooted) → MayBegin symbols rewrites store roots
-    → HasForms store (map (λ r. r.normal) roots)
-has_normals symbols rewrites store roots h = subst (HasForms store) (sym h.normal) h.has_given
-
--- one Open leaf
-abbrev pub one_leaf : List Symbol → ℕ → Tables → List Rooted → List FormId → Branch → State
-one_leaf symbols rewrites store roots params b = record {
-  symbols = symbols;
-  rewrites = rewrites;
-  store = store;
-  params = params;
-  roots = roots;
-  node = code.Open;
-  run = [];
-  current = Some (record { path = []; branch = b; offered = None });
-}
-
-pub leaf_kept : (symbols : List Symbol) (rewrites : ℕ) (store : Tables) (roots : List Rooted) (params : List FormId) (b : Branch)
-    → MayBegin symbols rewrites store roots → HasForms store params → HasForms store b.forms
-    → forms_of store b.forms ≡ extend [] (forms_of store (map (λ r. r.normal) roots)) → forms_of store params ≡ enter [] (forms_of store b.forms)
-    → IfSome b.closing (HasClosing store) → option_map (closing_of store) b.closing ≡ closing (forms_of store b.forms)
-    → IsKept (one_leaf symbols rewrites store roots params b)
-leaf_kept symbols rewrites store roots params b h has_params has forms entered has_closing closes =
-    let t = one_leaf symbols rewrites store roots params b in
-    let e : node_ids code.Open ≡ Node.opened = open_ids in
-    let at : forms_of store params ≡ enter [] (root t) = entered ∙ ap (enter []) forms in
-    let alone : IsTableau (setting t) (root t) tableau.Node.opened = record { lawful = tt; entered = refl; high = omega arith } in
-    record {
-      begun = record {
-        has_given = h.has_given;
-        normal = h.normal;
-        signature = h.signature;
-        given = h.given;
-        equality_free = h.equality_free;
-      };
-      tree = record {
-        has_node = subst (HasNode store) (sym e) tt;
-        has_params = has_params;
-        tableau = subst (λ m. IsTableau (setting t) (root t) (tree_of store m)) (sym e) alone;
-        picked = ap (λ m. picks (tree_of store m)) e;
-        counted = ap (λ m. count (tree_of store m)) e;
-        few = omega arith;
-      };
-      current = record {
-        has = has;
-        leads = e;
-        short = omega arith;
-        leaf = ap (λ m. current_leaf (root t) (tree_of store m)) e
-            ∙ ap (λ x. Some (record { branch = x; above = 0; table = enter [] (root t) })) (sym forms)
-            ∙ ap (λ x. Some (record { branch = forms_of store b.forms; above = 0; table = x })) (sym at);
-        has_closing = has_closing;
-        closing = closes;
-        offers = tt;
-      };
-    }

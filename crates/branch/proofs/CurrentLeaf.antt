@@ -1,10 +1,9 @@
 -- What is known of the current leaf of a tableau that is kept: its offers can be listed, and there is one list of them.
-use Rattle.std.proofs.Common.{◌≡◌, ◌<◌, false, refl, ap, sym, subst, ◌∙◌, List, [], ◌∷◌, All, Some}
+use Rattle.std.proofs.Common.{◌≡◌, refl, ap, sym, subst, ◌∙◌, List, [], ◌∷◌, All, Some}
 use Rattle.zm_logic.specs.Tree.{Form}
 use Rattle.param_store.specs.View.{forms_of}
 use Rattle.branch.specs.declared.tableau.Current.{Current}
 use Rattle.branch.specs.Branch.{extend}
-use Rattle.branch.specs.BranchOffers.{has_equality}
 use Rattle.branch.specs.EqualityFree.{AreEqualityFree}
 use Rattle.branch.specs.Introduced.{Above, HasFacts}
 use Rattle.branch.specs.Listing.{IsReady}
@@ -12,7 +11,7 @@ use Rattle.branch.specs.Normal.{Made, Normalizes, NormalizesFrom, MakesAll}
 use Rattle.branch.specs.Offers.{Offer, AreOffers}
 use Rattle.branch.specs.Setting.{Setting}
 use Rattle.branch.specs.Sound.{IsSound, AreGiven}
-use Rattle.branch.specs.State.{State, setting, given_forms, normal_ids, root, table, tree, branch_at, leaf_at, IsBegun, IsTree, IsCurrent, IsKept}
+use Rattle.branch.specs.State.{State, setting, given_forms, root, table, tree, branch_at, leaf_at, IsBegun, IsTree, IsCurrent}
 use Rattle.branch.specs.Stopping.{IsRoot}
 use Rattle.branch.specs.Tableau.{Leaf, current_leaf}
 use Rattle.branch.proofs.Determined.{one_offers}

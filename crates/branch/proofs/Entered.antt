@@ -1,11 +1,11 @@
 -- Branches and tables of numbers with one formula more.
-use Rattle.std.proofs.Common.{ℕ, ◌≡◌, ◌+◌, ◌<◌, Bool, true, false, cond, if◌then◌else◌, refl, ap, sym, subst, ◌∙◌, List, [], ◌∷◌, ◌++◌, ◌||◌, length, get_or, take, filter, map}
+use Rattle.std.proofs.Common.{ℕ, ◌≡◌, ◌+◌, ◌<◌, Bool, true, false, cond, if◌then◌else◌, refl, ap, sym, ◌∙◌, List, [], ◌∷◌, ◌++◌, ◌||◌, length, get_or, take, filter}
 use Rattle.std.specs.List.{list_any}
 use Rattle.std.proofs.lemmas.List.{map-append, append-nil}
 use Rattle.std.proofs.lemmas.List.Elements.{filter-append}
 use Rattle.std.proofs.Math.Seq.{take-append_seam, take-length}
 use Rattle.zm_logic.specs.Tree.{Form}
-use Rattle.zm_logic.specs.Same.{same, has}
+use Rattle.zm_logic.specs.Same.{has}
 use Rattle.term_store.specs.Trees.{Tables, AreShared, HasForm, form_of}
 use Rattle.term_store.specs.declared.ids.FormId.{FormId}
 use Rattle.param_store.specs.Numbers.{same_id, with_form, numbers_with}

@@ -1,8 +1,8 @@
 -- Each part of a branch has its entries: two sides have a unifier or none, and a unifier's bindings are bounded or one of
 -- them is the first that is too deep.
-use Rattle.std.proofs.Common.{ℕ, ◌≡◌, ◌+◌, ◌<◌, ◌≤◌, ◌⊎◌, Bool, cond, Option, None, Some, option_map, List, [], ◌∷◌, ◌++◌, All, length, reverse, inl, inr, refl, ap, sym, subst, arith}
+use Rattle.std.proofs.Common.{ℕ, ◌≡◌, ◌+◌, ◌<◌, ◌≤◌, ◌⊎◌, Bool, cond, Option, None, Some, option_map, List, [], ◌∷◌, ◌++◌, All, length, reverse, inl, inr, refl, ap, sym, subst}
 use Rattle.std.proofs.lemmas.List.Elements.{All-nil, All-cons}
-use Rattle.zm_logic.specs.Tree.{Ty, Term, Form, Side, differ}
+use Rattle.zm_logic.specs.Tree.{Term, Form, Side, differ}
 use Rattle.unify.specs.Answer.{solved_depth, name_of}
 use Rattle.unify.specs.Binding.{Binding}
 use Rattle.unify.specs.Equation.{Equation}

@@ -2,7 +2,7 @@
 use Rattle.std.proofs.Common.{ℕ, ◌≡◌, ◌<◌, Bool, true, false, cond, refl, sym, subst, ap, ◌∙◌, arith, List, [], ◌∷◌, ◌++◌, Option, None, Some, All, length, slice_get}
 use Rattle.std.proofs.lemmas.List.Elements.{All-nil, All-cons, All-head, All-tail, All-append, All-filter}
 use Rattle.zm_logic.specs.Tree.{Form, Opening, Side}
-use Rattle.param_store.specs.RawOffers.{Raw, Quantified, split, split_offers, quantified, own_part, number_of, opened, opened_offers}
+use Rattle.param_store.specs.RawOffers.{Raw, Quantified, on, one, split, split_offers, quantified, own_part, number_of, at_part, opened, opened_offers}
 use Rattle.unify.specs.Binding.{Binding}
 use Rattle.unify.specs.Unification.{UnifiesForms, UnifiesTerms}
 use Rattle.equality_rules.specs.Typed.{has_type}
@@ -10,7 +10,7 @@ use Rattle.equality_rules.specs.Instances.{InstancesOf, instances, instance, in_
 use Rattle.equality_rules.specs.Pairs.{FormsDiffer, TermsDiffer}
 use Rattle.branch.specs.Setting.{Setting}
 use Rattle.branch.specs.Normal.{Made, MakesAll}
-use Rattle.branch.specs.BranchOffers.{Kind, Entry, entries, split_kind, opened_kind, opened_entries, own_entries, instance_entries, BindingEntries, SingleEntries, PairEntries, PairsWith, EntriesFrom, AreRawOffers}
+use Rattle.branch.specs.BranchOffers.{Kind, Entry, entries, split_kind, opened_kind, opened_entries, own_entries, instance_entries, BindingEntries, SingleEntries, PairEntries, PairsWith, EntriesFrom}
 use Rattle.branch.specs.Offers.{Child, Offer, MakesOffer, is_useful, AreOffers}
 use Rattle.branch.specs.EqualityFree.{AreEqualityFree}
 use Rattle.branch.proofs.Kept.{made_is}
@@ -56,12 +56,15 @@ instance_entries_filled j i (r ∷ rs) h =
     (entries_filled Kind.instance r.act.first j i (r ∷ []) (one_raw r (All-head IsFilled r rs h)))
     (instance_entries_filled j i rs (All-tail IsFilled r rs h))
 
+filled : (c : List Form) (cs : List (List Form)) → 0 < length (c ∷ cs)
+filled c cs = omega arith
+
 opened_filled : (f : Form) (q : Quantified) (w : Opening) → IsFilled (opened f q w)
-opened_filled f q w = omega arith
+opened_filled f q w = filled (one (at_part q w)) []
 
 split_offers_filled : (f : Form) (cs : List (List Form)) → AreFilledRaws (split_offers f cs)
 split_offers_filled f [] = no_raws
-split_offers_filled f (c ∷ cs) = one_raw _ (omega arith)
+split_offers_filled f (c ∷ cs) = one_raw (record { act = on f; children = c ∷ cs }) (filled c cs)
 
 opened_entries_filled : (table : List Form) (j : ℕ) (f : Form) (o : Option Quantified) → AreFilled (opened_entries table j f o)
 opened_entries_filled table j f None = no_entries

@@ -1,5 +1,5 @@
 -- Without rules, below a root without an equality the current leaf's branch and its table have none.
-use Rattle.std.proofs.Common.{◌≡◌, ℕ, ◌+◌, Bool, true, false, ◌||◌, cond, refl, ap, sym, subst, ◌∙◌, List, [], ◌∷◌, Option, None, Some, All}
+use Rattle.std.proofs.Common.{◌≡◌, ℕ, ◌+◌, Bool, true, false, ◌||◌, cond, refl, subst, ◌∙◌, List, [], Option, None, Some}
 use Rattle.std.specs.Option.{option_or}
 use Rattle.std.proofs.lemmas.List.Elements.{All-head, All-tail}
 use Rattle.zm_logic.specs.Tree.{Form}

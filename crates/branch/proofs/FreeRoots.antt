@@ -1,30 +1,18 @@
 -- Without rules, the root's branch of a typed problem without quantifiers and equality has its formulas.
-use Rattle.std.proofs.Common.{◌≡◌, ℕ, ◌+◌, ◌≤◌, subst, arith, List, [], ◌∷◌, inl, inr, Contains, All, map}
-use Rattle.std.proofs.lemmas.List.Elements.{All-contains, Contains-append_cases}
-use Rattle.zm_logic.specs.Tree.{Form, Premise, Problem}
+use Rattle.std.proofs.Common.{◌≡◌, ℕ, ◌+◌, ◌≤◌, subst, arith, List, [], All}
+use Rattle.std.proofs.lemmas.List.Elements.{All-contains}
+use Rattle.zm_logic.specs.Tree.{Form, Problem}
 use Rattle.zm_logic.specs.Measure.{depth}
 use Rattle.zm_logic.specs.Parameter.{HasNoParameter}
-use Rattle.zm_logic.specs.Problem.{IsProblemForm, IsTypedProblem}
+use Rattle.zm_logic.specs.Problem.{IsTypedProblem}
 use Rattle.zm_logic.specs.Truth.{IsQuantifierFree, refuted}
-use Rattle.zm_logic.proofs.Sames.{Contains-none, only}
+use Rattle.zm_logic.proofs.Sames.{Contains-none}
 use Rattle.branch.specs.Setting.{Setting}
 use Rattle.branch.specs.Stopping.{IsRoot}
 use Rattle.branch.specs.QuantifierFree.{AreQuantifierFree, AreShallow}
-use Rattle.branch.proofs.Lists.{map-source}
+use Rattle.branch.proofs.Refuted.{refuted_have, premise_is}
 use Rattle.branch.proofs.Splits.{root_itself}
 use Rattle.branch.proofs.FreeBranches.{extend_free, extend_shallow}
-
--- what premises and the negated conjecture have
-pub refuted_have : (P : Form → Type 0) (p : Problem) → ((q : Premise) → Contains p.premises q → P q.form) → P (Form.negation p.conjecture) → (f : Form) → Contains (refuted p) f → P f
-refuted_have P p h k f m =
-    let of : Premise → Form = λ premise. premise.form in
-    elim (Contains-append_cases (map of p.premises) (Form.negation p.conjecture ∷ []) f m) [
-      | inl i ↦ let x = map-source of p.premises f i in subst P x.2 (h x.0 x.1)
-      | inr i ↦ subst P (only (Form.negation p.conjecture) f i) k
-    ]
-
-pub premise_is : (p : Problem) → IsTypedProblem p → (q : Premise) → Contains p.premises q → IsProblemForm p.symbols q.form
-premise_is p typed q m = All-contains (λ x. IsProblemForm p.symbols x.form) p.premises q typed.premises m
 
 pub refuted_free : (p : Problem) → IsTypedProblem p → All IsQuantifierFree (refuted p) → AreQuantifierFree (refuted p)
 refuted_free p typed free = record {

@@ -1,5 +1,5 @@
 -- Offers that are listed, and what a search is given, stay while the store grows.
-use Rattle.std.proofs.Common.{◌≡◌, Option, None, Some, List, [], ◌∷◌, ◌++◌, map, option_map, refl, ap, sym, subst, ◌∙◌}
+use Rattle.std.proofs.Common.{◌≡◌, Option, None, Some, List, [], ◌∷◌, ◌++◌, map, option_map, refl, ap, sym, ◌∙◌}
 use Rattle.zm_logic.specs.Tree.{Form, Symbol}
 use Rattle.term_store.specs.Trees.{Tables, form_of, Extends}
 use Rattle.term_store.specs.Open.{part_of}

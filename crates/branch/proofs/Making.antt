@@ -1,6 +1,5 @@
 -- A raw offer that is listed with its own formulas as their normal forms.
-use Rattle.std.proofs.Common.{ℕ, ◌≡◌, List, [], ◌∷◌, ◌++◌, Option, length, ap, sym, subst, ◌∙◌}
-use Rattle.zm_logic.specs.Tree.{Form}
+use Rattle.std.proofs.Common.{◌≡◌, List, length, ap, sym, subst, ◌∙◌}
 use Rattle.term_store.specs.Trees.{Tables}
 use Rattle.param_store.specs.RawOffers as raw
 use Rattle.param_store.specs.View.{act_of, lists_of, raw_of, HasAct, HasLists, HasRaw}

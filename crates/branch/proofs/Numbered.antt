@@ -1,10 +1,10 @@
 -- A formula that has a number keeps the numbers as they are.
-use Rattle.std.proofs.Common.{◌≡◌, Bool, true, false, ◌||◌, if◌then◌else◌, List, [], ◌∷◌, ◌++◌, Contains, inl, inr, refl, ap, sym, subst, ◌∙◌}
+use Rattle.std.proofs.Common.{◌≡◌, Bool, true, false, ◌||◌, if◌then◌else◌, List, [], ◌∷◌, ◌++◌, Contains, inl, inr, refl, ap, sym, subst}
 use Rattle.std.specs.List.{list_any}
 use Rattle.zm_logic.proofs.Sames.{Contains-none, Contains-cases}
 use Rattle.term_store.specs.Trees.{Tables, AreShared, HasForm, form_of}
 use Rattle.term_store.specs.declared.ids.FormId.{FormId}
-use Rattle.param_store.specs.Numbers.{same_id, with_form, numbers_with}
+use Rattle.param_store.specs.Numbers.{same_id, numbers_with}
 use Rattle.param_store.specs.RawOffers.{is_quantified}
 use Rattle.param_store.specs.View.{forms_of, HasForms}
 use Rattle.param_store.proofs.Numbers.{same_id_self}

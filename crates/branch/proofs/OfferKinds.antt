@@ -1,12 +1,11 @@
 -- The kind of a formula's own offer, from its raw offers.
-use Rattle.std.proofs.Common.{ℕ, zero, suc, ◌≡◌, ◌+◌, ◌<◌, ◌≤◌, true, Option, None, Some, List, [], ◌∷◌, ◌++◌, Contains, length, get_or, map, option_map, refl, ap, sym, subst, ◌∙◌, arith}
+use Rattle.std.proofs.Common.{ℕ, zero, suc, ◌≡◌, ◌<◌, ◌≤◌, None, Some, List, [], ◌∷◌, ◌++◌, Contains, length, get_or, refl, ap, sym, ◌∙◌, arith}
 use Rattle.zm_logic.specs.Tree.{Form}
 use Rattle.zm_logic.proofs.Sames.{Contains-here, Contains-there}
 use Rattle.term_store.specs.Trees.{Tables, form_of}
 use Rattle.term_store.specs.declared.ids.FormId.{FormId}
 use Rattle.param_store.specs.RawOffers.{Raw, Quantified, split, split_offers, quantified, number_of, opened_offers, own_offers}
-use Rattle.param_store.specs.View.{forms_of, lists_of, raw_of}
-use Rattle.param_store.specs.declared.offer.RawOffer.{RawOffer}
+use Rattle.param_store.specs.View.{forms_of, lists_of}
 use Rattle.branch.specs.BranchOffers.{Kind, split_kind, opened_kind}
 use Rattle.branch.specs.Left.{kind_for, own_kind, first_kind}
 

@@ -1,12 +1,12 @@
 -- A Step over ids with Open leaves below it, and its tree.
-use Rattle.std.proofs.Common.{ℕ, zero, suc, ◌≡◌, ◌+◌, ◌<◌, ◌≤◌, false, refl, ap, sym, subst, ◌∙◌, arith, List, [], ◌∷◌, ◌++◌, length, map, take, get_or, slice_get, Some}
+use Rattle.std.proofs.Common.{ℕ, zero, suc, ◌≡◌, ◌+◌, ◌<◌, ◌≤◌, refl, ap, sym, subst, ◌∙◌, arith, List, [], ◌∷◌, ◌++◌, length, map, take, get_or, slice_get, Some}
 use Rattle.std.proofs.Math.Seq.{take-length}
 use Rattle.term_store.specs.Trees.{Tables}
 use Rattle.term_store.specs.declared.ids.FormId.{FormId}
 use Rattle.param_store.specs.View.{forms_of, lists_of, HasForms, HasLists}
 use Rattle.branch.specs.declared.listed.Listed.{Listed}
 use Rattle.branch.specs.declared.node.Child as code_child
-use Rattle.branch.specs.Ids.{Node, Children, Child, children_of, child_ids, tree_of, trees_of, HasNode, HasNodes, kind_of}
+use Rattle.branch.specs.Ids.{Node, Children, children_of, child_ids, tree_of, trees_of, HasNode, HasNodes}
 use Rattle.branch.specs.Listed as listed
 use Rattle.branch.specs.Listed.{listed_children, IsListed}
 use Rattle.branch.specs.Replaced.{opening}
@@ -19,12 +19,18 @@ some_is : (x y : List FormId) → Some x ≡ Some y → x ≡ y
 some_is x y e = cc
 
 -- one leaf more
+open_next : (i : ℕ) (rs ns : List (List FormId)) (d b : List FormId) → i < length rs → length ns ≡ length rs
+    → open_leaves (take (suc i) rs) (take (suc i) ns) ≡ open_leaves (take i rs) (take i ns) ++ open_leaf (get_or rs i d) (get_or ns i b) ∷ []
+open_next i [] ns d b h e = absurd (omega (arith, h))
+open_next i (r ∷ rs) [] d b h e = absurd (omega (arith, e))
+open_next zero (r ∷ rs) (n ∷ ns) d b h e = refl
+open_next (suc i) (r ∷ rs) (n ∷ ns) d b h e = ap (λ cs. open_leaf r n ∷ cs) (open_next i rs ns d b (omega (arith, h)) (omega (arith, e)))
+
 open_more : (i : ℕ) (rs ns : List (List FormId)) (d b : List FormId) → i < length rs → length ns ≡ length rs
     → open_leaves (take (i + 1) rs) (take (i + 1) ns) ≡ open_leaves (take i rs) (take i ns) ++ open_leaf (get_or rs i d) (get_or ns i b) ∷ []
-open_more i [] ns d b h e = absurd (omega (arith, h))
-open_more i (r ∷ rs) [] d b h e = absurd (omega (arith, e))
-open_more zero (r ∷ rs) (n ∷ ns) d b h e = refl
-open_more (suc i) (r ∷ rs) (n ∷ ns) d b h e = ap (λ cs. open_leaf r n ∷ cs) (open_more i rs ns d b (omega (arith, h)) (omega (arith, e)))
+open_more i rs ns d b h e =
+    let n : i + 1 ≡ suc i = omega arith in
+    ap (λ j. open_leaves (take j rs) (take j ns)) n ∙ open_next i rs ns d b h e
 
 map_push : (cs : List code_child.Child) (c : code_child.Child) → map child_ids (cs ++ c ∷ []) ≡ map child_ids cs ++ child_ids c ∷ []
 map_push [] c = refl

@@ -1,5 +1,5 @@
 -- The offers of a branch, part by part: what the loops list, and what stops them.
-use Rattle.std.proofs.Common.{ℕ, ◌≡◌, ◌+◌, ◌<◌, ◌≤◌, false, List, [], ◌++◌, length, map, append-nil, refl, ap, sym, subst, ◌∙◌, arith}
+use Rattle.std.proofs.Common.{ℕ, ◌≡◌, ◌+◌, ◌<◌, false, List, [], length, map, refl, sym, subst, ◌∙◌, arith}
 use Rattle.zm_logic.specs.Tree.{Form, Symbol}
 use Rattle.term_store.specs.Trees.{Tables, Extends}
 use Rattle.term_store.specs.Open.{HasRedex, redex_of}

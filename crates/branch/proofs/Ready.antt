@@ -1,16 +1,16 @@
 -- A branch whose offers can be listed, with one formula more.
-use Rattle.std.proofs.Common.{◌≡◌, Bool, true, false, ◌||◌, if◌then◌else◌, List, [], ◌∷◌, ◌++◌, Contains, map, inl, inr, refl, ap, sym, subst, ◌∙◌}
+use Rattle.std.proofs.Common.{ℕ, ◌≡◌, Bool, true, false, ◌||◌, if◌then◌else◌, List, [], ◌∷◌, ◌++◌, Contains, inl, inr, refl, ap, sym, subst, ◌∙◌}
 use Rattle.std.specs.List.{list_any}
+use Rattle.std.proofs.lemmas.Bool.Decides.{eqb_tells}
 use Rattle.std.proofs.lemmas.List.Elements.{Contains-append_cases, Contains-append_left, Contains-append_right}
 use Rattle.zm_logic.specs.Tree.{Form}
 use Rattle.zm_logic.proofs.Sames.{Contains-none, Contains-here, Contains-there, only}
 use Rattle.term_store.specs.Trees.{Tables, HasForm, form_of, Extends}
 use Rattle.term_store.specs.declared.ids.FormId.{FormId}
-use Rattle.term_store.proofs.Kept.{still_form}
 use Rattle.param_store.specs.Numbers.{same_id, with_form, numbers_with}
 use Rattle.param_store.specs.RawOffers.{is_quantified}
 use Rattle.param_store.specs.View.{forms_of, HasForms}
-use Rattle.param_store.proofs.Numbers.{same_id_true, has_with}
+use Rattle.param_store.proofs.Numbers.{has_with}
 use Rattle.param_store.proofs.Stay.{forms_still, forms_stay}
 use Rattle.equality_rules.specs.Pairs.{is_equality}
 use Rattle.branch.specs.BranchOffers.{has_equality}
@@ -46,6 +46,9 @@ plain_push : (fs : List Form) (f : Form) → has_equality fs ≡ false → is_eq
 plain_push [] f h k = or_false (is_equality f) false k refl
 plain_push (g ∷ gs) f h k =
     let x = or_parts (is_equality g) (has_equality gs) h in or_false (is_equality g) (has_equality (gs ++ f ∷ [])) x.0 (plain_push gs f x.1 k)
+
+same_id_true : (f g : FormId) → same_id f g ≡ true → f ≡ g
+same_id_true f g e = elim (eqb_tells f.0 g.0) [ inl x ↦ ap (λ (n : ℕ). record { 0 = n }) x.1 | inr x ↦ absurd (let h = sym x.0 ∙ e in cc) ]
 
 found : (s : Tables) (ids : List FormId) (f : FormId) → list_any (same_id f) ids ≡ true → Contains (forms_of s ids) (form_of s f)
 found s [] f e = absurd (let q = e in cc)

@@ -1,8 +1,8 @@
 -- What single and opposite formulas give, from the instances that are made of them, and from what is too deep.
-use Rattle.std.proofs.Common.{ℕ, ◌≡◌, ◌<◌, ◌≤◌, Bool, true, false, cond, Option, None, Some, is_some, List, [], ◌∷◌, ◌++◌, slice_get, append-nil, refl, ap, sym, subst, ◌∙◌, arith}
-use Rattle.zm_logic.specs.Tree.{Ty, Term, Form, Side, Quantifier, Opening, Symbol, differ}
+use Rattle.std.proofs.Common.{ℕ, ◌≡◌, ◌<◌, Bool, true, false, cond, Option, None, Some, is_some, List, [], ◌∷◌, ◌++◌, slice_get, append-nil, refl, ap, sym, subst, ◌∙◌}
+use Rattle.zm_logic.specs.Tree.{Form, Side, Quantifier, Opening, Symbol, differ}
 use Rattle.param_store.specs.RawOffers.{Raw, Quantified, split, split_offers, quantified, number_of, opened_offers, own_offers}
-use Rattle.param_store.specs.Depth.{deepest, deepest_child}
+use Rattle.param_store.specs.Depth.{deepest}
 use Rattle.unify.specs.Binding.{Binding}
 use Rattle.equality_rules.specs.Typed.{has_type}
 use Rattle.equality_rules.specs.Instances.{InstancesOf, instances, in_order, instance_of, opened_where}
@@ -10,7 +10,7 @@ use Rattle.equality_rules.specs.Pairs.{PairOffers, SingleOffers}
 use Rattle.equality_rules.specs.Refused.{acted_on, IsFirstDeepOffer, PairIsBounded, PairIsRefused, SingleIsBounded, SingleIsRefused}
 use Rattle.branch.specs.Setting.{Setting}
 use Rattle.branch.specs.Normal.{Fault, Made, MakesAll}
-use Rattle.branch.specs.BranchOffers.{Kind, Entry, entries, opened_kind, split_kind, opened_entries, own_entries, instance_entries, BindingEntries, SingleEntries, PairEntries}
+use Rattle.branch.specs.BranchOffers.{Entry, entries, opened_kind, split_kind, opened_entries, own_entries, instance_entries, BindingEntries, SingleEntries, PairEntries}
 use Rattle.branch.specs.Offers.{MakesOffer}
 use Rattle.branch.specs.Left.{Fails, kind_for, own_kind, first_kind}
 use Rattle.branch.proofs.Unchanged.{entries_deep, instances_deep}

@@ -1,5 +1,5 @@
 -- What holds of a tableau holds of one that stays as it was, over a store that has grown.
-use Rattle.std.proofs.Common.{ℕ, ◌≡◌, ◌<◌, false, refl, ap, sym, subst, ◌∙◌, List, Option, None, Some, length}
+use Rattle.std.proofs.Common.{ℕ, ◌≡◌, ◌<◌, false, ap, sym, subst, ◌∙◌, List, Option, None, length}
 use Rattle.zm_logic.specs.declared.problem.Symbol.{Symbol}
 use Rattle.term_store.specs.declared.ids.FormId.{FormId}
 use Rattle.term_store.specs.Trees.{Tables, Extends}
@@ -11,8 +11,8 @@ use Rattle.branch.specs.Branch.{closing}
 use Rattle.branch.specs.Offers.{Offer, AreOffers}
 use Rattle.branch.specs.Replaced.{opening, replaced}
 use Rattle.branch.specs.State.{State, setting, root, tree, IsKept}
-use Rattle.branch.specs.Stepped.{AtLeaf, IsOpen, IsSame, HasOffer, IsUnclosed, IsApplied}
-use Rattle.branch.specs.Tableau.{Leaf, Node, is_finished, current_leaf, count}
+use Rattle.branch.specs.Stepped.{AtLeaf, IsSame, HasOffer, IsUnclosed, IsApplied}
+use Rattle.branch.specs.Tableau.{Leaf, Node, current_leaf, count}
 use Rattle.branch.proofs.States.{over, root_stays, node_stays}
 
 -- its parts that stay
@@ -41,9 +41,6 @@ module _ (t : State) (k : IsKept t) (v : Tables) (e : Extends t.store v) (d : Op
   at_over : (P : Leaf → Type 0) → AtLeaf t P → AtLeaf (over t v d) P
   at_over P a = record { leaf = a.leaf; is_current = current_same ∙ a.is_current; holds = a.holds }
 
-  open_over : IsOpen t → IsOpen (over t v d)
-  open_over o = ap is_finished tree_same ∙ o
-
   few_over : count (tree t) < 1000000 → count (tree (over t v d)) < 1000000
   few_over h = subst (λ n. count n < 1000000) (sym tree_same) h
 
@@ -64,9 +61,6 @@ module _ (t : State) (k : IsKept t) (v : Tables) (e : Extends t.store v) (d : Op
 module _ (t u : State) (k : IsKept t) (s : IsSame t u) where
   same : over t u.store u.current ≡ u
   same = same_over t u s
-
-  pub open_same : IsOpen t → IsOpen u
-  open_same o = subst IsOpen same (open_over t k u.store s.of.store u.current o)
 
   pub unclosed_same : IsUnclosed t → IsUnclosed u
   unclosed_same a = subst IsUnclosed same (at_over t k u.store s.of.store u.current (λ leaf. closing leaf.branch ≡ None) a)

@@ -1,13 +1,10 @@
 -- What a chooser sees of listed offers.
-use Rattle.std.proofs.Common.{◌≡◌, refl, ap, sym, subst, ◌∙◌, arith, List, [], ◌∷◌, length, map}
-use Rattle.zm_logic.specs.Tree.{Form, Symbol}
+use Rattle.std.proofs.Common.{◌≡◌, refl, sym, ◌∙◌, arith, List, [], ◌∷◌, length, map}
 use Rattle.term_store.specs.Trees.{Tables}
 use Rattle.term_store.specs.declared.ids.FormId.{FormId}
 use Rattle.param_store.specs.View.{lists_of}
-use Rattle.choosers.specs.declared.offer.Offer as code
 use Rattle.branch.specs.declared.listed.Listed.{Listed}
-use Rattle.branch.specs.Listed.{children_of, listed_children, listed_of, IsListed, EachListed}
-use Rattle.branch.specs.Offers.{Offer}
+use Rattle.branch.specs.Listed.{children_of, listed_of, IsListed, EachListed}
 use Rattle.branch.specs.Stepped.{IsSeen, AreSeen}
 
 -- as many children as there are lists before normalising

@@ -8,7 +8,7 @@ use Rattle.indexmap.specs.IndexMap.{IndexMap, get}
 use Rattle.zm_logic.specs.Tree as tree
 use Rattle.zm_logic.specs.Measure.{type_size, types_size, term_size, terms_size, size}
 use Rattle.term_store.specs.Node.{type_at, types_at, term_at, terms_at}
-use Rattle.term_store.specs.Trees.{Tables, HasType, HasTerm, HasForm, type_of, term_of, form_of, Extends}
+use Rattle.term_store.specs.Trees.{Tables, form_of, Extends}
 use Rattle.term_store.specs.declared.ids.TyId.{TyId}
 use Rattle.term_store.specs.declared.ids.TermId.{TermId}
 use Rattle.term_store.specs.declared.ids.FormId.{FormId}

@@ -1,5 +1,5 @@
 -- Without rules a raw offer is made as it is, unless it is too deep.
-use Rattle.std.proofs.Common.{ℕ, ◌≡◌, ◌<◌, ◌≤◌, ◌⊎◌, max, cond, true, Option, None, Some, List, [], ◌∷◌, ◌++◌, map, filter, is_some, inl, inr, refl, ap, sym, subst, ◌∙◌, arith}
+use Rattle.std.proofs.Common.{ℕ, ◌≡◌, ◌<◌, ◌≤◌, ◌⊎◌, Option, List, [], ◌∷◌, ◌++◌, map, filter, inl, inr, refl, ap, sym, subst, ◌∙◌, arith}
 use Rattle.std.proofs.lemmas.Bool.Decides.{leb_tells}
 use Rattle.std.proofs.lemmas.List.Elements.{filter-append}
 use Rattle.zm_logic.specs.Tree.{Form, Side}
@@ -9,7 +9,7 @@ use Rattle.param_store.specs.Depth.{deepest, deepest_child, deepest_form}
 use Rattle.branch.specs.Setting.{Setting}
 use Rattle.branch.specs.Normal.{Fault, Made, NormalizesFrom, MakesAll}
 use Rattle.branch.specs.BranchOffers.{Kind, Entry, entries, instance_entries}
-use Rattle.branch.specs.Offers.{Child, Offer, MakesForm, MakesChild, MakesOffer, is_useful}
+use Rattle.branch.specs.Offers.{Offer, MakesForm, MakesChild, MakesOffer, is_useful}
 use Rattle.branch.specs.Left.{unchanged, offer_at, offers_at, AreLeft}
 use Rattle.branch.proofs.NoRules.{itself}
 

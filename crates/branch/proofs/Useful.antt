@@ -1,5 +1,5 @@
 -- Which raw offers are left: formulas stand on a branch as their ids do.
-use Rattle.std.proofs.Common.{ℕ, zero, suc, ◌≡◌, ◌≢◌, ◌+◌, ◌<◌, ◌≤◌, Bool, true, false, ◌&&◌, ◌||◌, not, cond, nat_eq, Option, List, [], ◌∷◌, ◌++◌, length, take, drop, get_or, map, filter, append-nil, refl, ap, sym, subst, ◌∙◌, inl, inr, arith}
+use Rattle.std.proofs.Common.{ℕ, zero, suc, ◌≡◌, ◌+◌, ◌<◌, ◌≤◌, Bool, true, false, ◌&&◌, ◌||◌, not, cond, nat_eq, Option, List, [], ◌∷◌, ◌++◌, length, take, drop, get_or, map, filter, append-nil, refl, ap, sym, subst, ◌∙◌, inl, inr, arith}
 use Rattle.std.specs.List.{list_any}
 use Rattle.std.proofs.lemmas.Bool.Decides.{eqb_tells}
 use Rattle.std.proofs.lemmas.List.{take_more, drop_more}
@@ -14,7 +14,7 @@ use Rattle.param_store.specs.View.{forms_of, lists_of, raw_of, HasForms, HasList
 use Rattle.param_store.specs.declared.offer.RawOffer.{RawOffer}
 use Rattle.branch.specs.declared.listed.Listed.{Listed}
 use Rattle.branch.specs.BranchOffers.{Kind}
-use Rattle.branch.specs.Offers.{Child, Offer, has_all, has_some, normals, is_useful}
+use Rattle.branch.specs.Offers.{Offer, has_all, has_some, normals, is_useful}
 use Rattle.branch.specs.Left.{unchanged, offer_at, offers_at}
 use Rattle.branch.specs.Listed.{IsListed, AreListed, listed_of}
 use Rattle.branch.proofs.Lasting.{listed_push}

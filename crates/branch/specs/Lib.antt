@@ -28,3 +28,4 @@ pub mod Stepped
 pub mod Roots
 pub mod Causes
 pub mod Stepping
+pub mod Answered

@@ -6,7 +6,6 @@ use Rattle.zm_logic.specs.declared.tree.Form as code
 use Rattle.zm_logic.specs.declared.problem.Symbol.{Symbol}
 use Rattle.zm_logic.specs.declared.problem.Premise.{Premise}
 use Rattle.term_store.specs.Trees.{Tables}
-use Rattle.term_store.specs.declared.ids.FormId.{FormId}
 use Rattle.param_store.specs.View.{forms_of, HasForms}
 use Rattle.branch.specs.declared.node.Node as code_node
 use Rattle.branch.specs.declared.tableau.Rooted.{Rooted}

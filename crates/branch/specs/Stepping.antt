@@ -30,6 +30,10 @@ open_leaves (r ∷ rs) (f ∷ fs) = open_leaf r f ∷ open_leaves rs fs
 abbrev pub step_ids : ℕ → Listed → Node
 step_ids pick l = Node.step pick l.offer.kind l.act (children_of (open_leaves l.raw l.normal))
 
+-- a closed leaf
+abbrev pub closed_ids : ClosingPair → Node
+closed_ids pair = Node.closed pair
+
 -- the offers of a branch, as a chooser sees them and with their children
 pub record AreOffersOf (s : Tables) (symbols : List Symbol) (params forms : List FormId) (o : Offered) : Type 0 where
   pub each : EachListed s o.listed
@@ -65,10 +69,6 @@ pub record OfCurrent (t : State) (claim : Current → Type 0) : Type 0 where
 -- the offers of the current leaf are listed
 abbrev pub IsListing : State → Type 0
 IsListing t = OfCurrent t (λ c. (o : Offered) × (c.offered ≡ Some o))
-
--- the current leaf has a listed offer of this number
-abbrev pub CanTake : State → ℕ → Type 0
-CanTake t pick = OfCurrent t (λ c. HasListed c pick)
 
 -- this closes the current leaf
 abbrev pub ClosesCurrent : State → ClosingPair → Type 0

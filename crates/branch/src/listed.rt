@@ -1,5 +1,6 @@
 ghost use Rattle.std.specs.Prelude.{◌≡◌, [], ◌∷◌, ◌++◌, List, map, OnOk, IfOk};
 ghost use Rattle.indexmap.specs.IndexMap.{IsEmpty};
+ghost use Rattle.term_store.specs.Trees.{Tables};
 ghost use Rattle.param_store.specs.View.{HasForms, HasLists, HasRaw, HasRaws, forms_of, lists_of, raw_of};
 ghost use Rattle.branch.specs.Ids.{kind_of};
 ghost use Rattle.branch.specs.Offers as offers;
@@ -127,17 +128,9 @@ fn copied(alloc: Global, lists: &[FormIds]) -> Result<FormLists, AllocError>
 }
 
 // A raw offer of a known size, each of whose formulas is its own normal form.
-fn of_size(
-    alloc: Global,
-    store: &Store,
-    place: Place,
-    raw: &RawOffer,
-    size: u64,
-) -> Result<Listed, AllocError>
-    requires has { HasRaw store.now raw.now }
-    requires sized { size ≡ capped (lists_size (lists_of store.now raw.now.children)) }
-    ensures listed { IfOk result (IsListed store.now) }
-    ensures tree { IfOk result (λ l. listed_of store.now l ≡ offer_at (kind_of place.kind) place.later place.earlier (raw_of store.now raw.now)) }
+fn of_size(alloc: Global, place: Place, raw: &RawOffer, size: u64) -> Result<Listed, AllocError>
+    ensures listed { (s : Tables) → HasRaw s raw.now → size ≡ capped (lists_size (lists_of s raw.now.children)) → IfOk result (IsListed s) }
+    ensures tree { (s : Tables) → IfOk result (λ l. listed_of s l ≡ offer_at (kind_of place.kind) place.later place.earlier (raw_of s raw.now)) }
 {
     let children = raw.children.as_slice();
     let formulas = copied(alloc, children)?;
@@ -171,7 +164,7 @@ fn made(
     ensures knows { OnOk result (KnowsSizes store.now kept.new) }
 {
     let size = children_size(store, kept, raw.children.as_slice())?;
-    of_size(alloc, store, place, raw, size)
+    of_size(alloc, place, raw, size)
 }
 
 // Lists a raw offer, unless one of its children has all its formulas on the branch.

@@ -2,7 +2,7 @@ ghost use Rattle.std.specs.Prelude.{◌≡◌, ◌+◌, length, nat_eq, OnOk, If
 ghost use Rattle.indexmap.specs.IndexMap.{IsEmpty, get};
 ghost use Rattle.zm_logic.specs.Measure as measure;
 ghost use Rattle.term_store.specs.Node.{TypesBelow, TermsBelow, types_at, terms_at};
-ghost use Rattle.term_store.specs.Trees.{HasType, HasTerm, HasForm, type_of, term_of, form_of, all_trees};
+ghost use Rattle.term_store.specs.Trees.{Tables, HasType, HasTerm, HasForm, type_of, term_of, form_of, all_trees};
 ghost use Rattle.branch.specs.Listed.{capped};
 ghost use Rattle.branch.specs.Sizes.{KnowsSizes};
 
@@ -52,36 +52,27 @@ fn kept_form(kept: &Sizes, id: FormId) -> Option<u64>
 }
 
 // Keeps the size of a type, and answers it.
-fn keep_type(store: &Store, kept: &mut Sizes, id: TyId, size: u64) -> Result<u64, AllocError>
-    requires has { HasType store.now id }
-    requires sized { size ≡ capped (measure.type_size (type_of store.now id)) }
-    requires knows { KnowsSizes store.now kept.old }
-    ensures value { IfOk result (λ n. n ≡ capped (measure.type_size (type_of store.now id))) }
-    ensures knows { OnOk result (KnowsSizes store.now kept.new) }
+fn keep_type(kept: &mut Sizes, id: TyId, size: u64) -> Result<u64, AllocError>
+    ensures value { IfOk result (λ n. n ≡ size) }
+    ensures knows { (s : Tables) → HasType s id → size ≡ capped (measure.type_size (type_of s id)) → KnowsSizes s kept.old → OnOk result (KnowsSizes s kept.new) }
 {
     kept.types.insert(id, size)?;
     Ok(size)
 }
 
 // Keeps the size of a term, and answers it.
-fn keep_term(store: &Store, kept: &mut Sizes, id: TermId, size: u64) -> Result<u64, AllocError>
-    requires has { HasTerm store.now id }
-    requires sized { size ≡ capped (measure.term_size (term_of store.now id)) }
-    requires knows { KnowsSizes store.now kept.old }
-    ensures value { IfOk result (λ n. n ≡ capped (measure.term_size (term_of store.now id))) }
-    ensures knows { OnOk result (KnowsSizes store.now kept.new) }
+fn keep_term(kept: &mut Sizes, id: TermId, size: u64) -> Result<u64, AllocError>
+    ensures value { IfOk result (λ n. n ≡ size) }
+    ensures knows { (s : Tables) → HasTerm s id → size ≡ capped (measure.term_size (term_of s id)) → KnowsSizes s kept.old → OnOk result (KnowsSizes s kept.new) }
 {
     kept.terms.insert(id, size)?;
     Ok(size)
 }
 
 // Keeps the size of a formula, and answers it.
-fn keep_form(store: &Store, kept: &mut Sizes, id: FormId, size: u64) -> Result<u64, AllocError>
-    requires has { HasForm store.now id }
-    requires sized { size ≡ capped (measure.size (form_of store.now id)) }
-    requires knows { KnowsSizes store.now kept.old }
-    ensures value { IfOk result (λ n. n ≡ capped (measure.size (form_of store.now id))) }
-    ensures knows { OnOk result (KnowsSizes store.now kept.new) }
+fn keep_form(kept: &mut Sizes, id: FormId, size: u64) -> Result<u64, AllocError>
+    ensures value { IfOk result (λ n. n ≡ size) }
+    ensures knows { (s : Tables) → HasForm s id → size ≡ capped (measure.size (form_of s id)) → KnowsSizes s kept.old → OnOk result (KnowsSizes s kept.new) }
 {
     kept.forms.insert(id, size)?;
     Ok(size)
@@ -99,7 +90,7 @@ fn ty_size(store: &Store, kept: &mut Sizes, id: TyId) -> Result<u64, AllocError>
         return Ok(size);
     }
     let size = new_ty_size(store, kept, id)?;
-    keep_type(store, kept, id, size)
+    keep_type(kept, id, size)
 }
 
 // The size of a type that isn't kept.
@@ -165,7 +156,7 @@ fn term_size(store: &Store, kept: &mut Sizes, id: TermId) -> Result<u64, AllocEr
         return Ok(size);
     }
     let size = new_term_size(store, kept, id)?;
-    keep_term(store, kept, id, size)
+    keep_term(kept, id, size)
 }
 
 // The size of a term that isn't kept.
@@ -253,7 +244,7 @@ pub(crate) fn form_size(store: &Store, kept: &mut Sizes, id: FormId) -> Result<u
         return Ok(size);
     }
     let size = new_size(store, kept, id)?;
-    keep_form(store, kept, id, size)
+    keep_form(kept, id, size)
 }
 
 // The size of a formula that isn't kept.

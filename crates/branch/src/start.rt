@@ -169,11 +169,7 @@ impl Tableau<Open> {
 }
 
 // A tableau with one Open leaf, of a problem.
-fn begun(
-    alloc: Global,
-    problem: &TypedProblem,
-    rewrites: u32,
-) -> Result<Tableau<Open>, AllocError>
+fn begun(alloc: Global, problem: &TypedProblem, rewrites: u32) -> Result<Tableau<Open>, AllocError>
     requires { AreEqualityFree (refuted (problem_tree problem.now)) }
     ensures { IfOk result (IsStarted (problem_tree problem.now) rewrites) }
 {

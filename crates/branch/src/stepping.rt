@@ -1,10 +1,12 @@
-ghost use Rattle.std.specs.Prelude.{◌≡◌, ◌≢◌, ◌<◌, ◌++◌, [], ◌∷◌, None, Some, true, map, length, slice_get, OnOk, OnErr, IfOk, IfErr};
+ghost use Rattle.std.specs.Prelude.{◌≡◌, ◌≢◌, ◌<◌, ◌++◌, [], ◌∷◌, None, Some, map, length, slice_get, OnOk, OnErr, IfOk, IfErr};
+ghost use Rattle.std.specs.Borrow.{sem};
 ghost use Rattle.zm_logic.specs.View.{symbol_tree};
 ghost use Rattle.term_store.specs.Open.{HasRedex, redex_of};
 ghost use Rattle.term_store.specs.Trees.{Extends};
 ghost use Rattle.param_store.specs.View.{HasForms, forms_of, lists_of};
+ghost use Rattle.branch.specs.Answered.{EndsAnswered};
 ghost use Rattle.branch.specs.Branch.{closing, extend};
-ghost use Rattle.branch.specs.Ids.{HasNode, child_ids, children_of as children_ids, node_ids};
+ghost use Rattle.branch.specs.Ids.{HasNode, child_ids, node_ids};
 ghost use Rattle.branch.specs.Normal.{Fault};
 ghost use Rattle.branch.specs.Offers.{HasFault};
 ghost use Rattle.branch.specs.Path.{IsFirst, along, extend_all, put};
@@ -14,18 +16,18 @@ ghost use Rattle.branch.specs.Listed.{IfStop};
 ghost use Rattle.branch.specs.Listing.{IsReady};
 ghost use Rattle.branch.specs.State.{tree};
 ghost use Rattle.branch.specs.Stepped.{IsOpen, IsUnclosed, AtLeaf, HasOffer, IsApplied, IsClosedAt, IsSame, AreOffersSeen, IsTooDeep};
-ghost use Rattle.branch.specs.Stepping.{AreOffersOf, CanTake, ClosesCurrent, GoesTo, HasListed, IsLeaf, IsListedAt, IsListing, open_leaf, open_leaves, step_ids};
+ghost use Rattle.branch.specs.Stepping.{AreOffersOf, ClosesCurrent, GoesTo, HasListed, IsLeaf, IsListedAt, IsListing, closed_ids, open_leaf, open_leaves, step_ids};
 
 use crate::along::{add_along, brought};
 use crate::closing::closing_pair;
 use crate::entering::{add_all, number_all};
 use crate::listed::Listed;
 use crate::listing::listed_offers;
-use crate::stop::BranchStop;
 use crate::next::next_path;
 use crate::node::{Child, ClosingPair, Node};
 use crate::place::put_at;
 use crate::start::root_forms;
+use crate::stop::BranchStop;
 use crate::tableau::{Branch, Current, Offered, Open, Rooted, Tableau};
 use choosers::Offer;
 use param_store::Params;
@@ -106,11 +108,7 @@ fn open_children(
 {
     let mut children = Vec::new(alloc);
     for place in 0..raw.len() {
-        children.push(open_child(
-            alloc,
-            raw[place].as_slice(),
-            normal[place].as_slice(),
-        )?)?;
+        children.push(open_child(alloc, raw[place].as_slice(), normal[place].as_slice())?)?;
     }
     Ok(children)
 }
@@ -226,6 +224,13 @@ fn listed_at(current: &Current, pick: usize) -> &Listed
     &current.offered.as_ref().unwrap().listed.as_slice()[pick]
 }
 
+// A closed leaf.
+fn closed_leaf(pair: ClosingPair) -> Node
+    ensures { node_ids result ≡ closed_ids pair }
+{
+    Node::Closed(pair)
+}
+
 // Puts a node in the place of the leaf to which a path leads.
 fn put_in_place(tree: &mut Node, path: &[usize], new: Node)
     requires { IsFirst path.now (node_ids tree.old) }
@@ -247,21 +252,23 @@ impl Tableau<Open> {
         if current.offered.is_some() {
             return Ok(());
         }
-        let offered = offers_of(
+        let offered = match offers_of(
             self.alloc,
             &mut self.store,
             &mut self.params,
             &self.symbols,
             current.branch.forms.as_slice(),
-        )?;
+        ) {
+            Ok(offered) => offered,
+            Err(stop) => return Err(stop),
+        };
         current.offered = Some(offered);
         Ok(())
     }
 
     // The listed offers of the current branch.
     fn listed(&self) -> &[Offer]
-        requires open { IsOpen self.now }
-        requires listed { IsListing self.now }
+        requires { IsListing self.now }
         ensures { AreOffersSeen self.now result.now }
     {
         let current = self.current.as_ref().unwrap();
@@ -272,9 +279,7 @@ impl Tableau<Open> {
     pub fn offers(&mut self) -> Result<&[Offer], BranchStop>
         requires open { IsOpen self.old }
         requires unclosed { IsUnclosed self.old }
-        ensures offers { IfOk result (λ os. AreOffersSeen self.new os.now) }
-        ensures stop { IfErr result (IfStop (IsTooDeep self.new)) }
-        ensures same { IsSame self.old self.new }
+        ensures* answered { sem 𝓛 (EndsAnswered self.entry result) }
     {
         self.list()?;
         Ok(self.listed())
@@ -282,9 +287,9 @@ impl Tableau<Open> {
 
     // Puts the Step that takes a listed offer, and goes to its first child.
     fn take(&mut self, pick: usize) -> Result<(), AllocError>
-        requires open { IsOpen self.old }
         requires unclosed { IsUnclosed self.old }
-        requires listed { CanTake self.old pick }
+        requires offer { HasOffer self.old pick }
+        requires listed { IsListing self.old }
         requires short { AtLeaf self.old (λ leaf. leaf.above < 512) }
         requires few { spec.count (tree self.old) < 1000000 }
         ensures applied { OnOk result (IsApplied self.old pick self.new) }
@@ -311,6 +316,7 @@ impl Tableau<Open> {
         ensures applied { OnOk result (IsApplied self.old pick self.new) }
         ensures refused { OnErr result (IsSame self.old self.new) }
     {
+        self.kept();
         match self.list() {
             Ok(()) => self.take(pick),
             Err(_) => Err(AllocError),
@@ -334,7 +340,8 @@ impl Tableau<Open> {
         )?;
         let forms = brought(&self.tree, behind.path.as_slice());
         number_all(&self.store, &mut self.params, forms)?;
-        put_in_place(&mut self.tree, current.path.as_slice(), Node::Closed(pair));
+        let leaf = closed_leaf(pair);
+        put_in_place(&mut self.tree, current.path.as_slice(), leaf);
         self.current = Some(behind);
         Ok(())
     }
@@ -346,7 +353,8 @@ impl Tableau<Open> {
         ensures { IsClosedAt self.old self.new }
     {
         let current = self.current.as_ref().unwrap();
-        put_in_place(&mut self.tree, current.path.as_slice(), Node::Closed(pair));
+        let leaf = closed_leaf(pair);
+        put_in_place(&mut self.tree, current.path.as_slice(), leaf);
         self.current = None;
     }
 

@@ -1,5 +1,6 @@
 -- What follows from what a search found.
-use Rattle.std.proofs.Common.{ℕ, ◌≡◌, ◌≢◌, true, false, List, [], Some, refl, sym, ap, ap₂, subst, ◌∙◌}
+use Rattle.std.proofs.Common.{ℕ, ◌≡◌, ◌≢◌, true, false, List, [], Some, Vec, refl, sym, ap, ap₂, subst, ◌∙◌}
+use Rattle.std.specs.declared.alloc.Global.{Global}
 use Rattle.zm_logic.specs.Tree.{Form, Symbol, Problem}
 use Rattle.zm_logic.specs.Problem.{IsTypedProblem}
 use Rattle.zm_logic.specs.Truth.{Valued, Falsifies, refuted}
@@ -102,10 +103,19 @@ module _ (p : Problem) (steps : ℕ) where
         (grown_tableau t s.grown) w n s.stopped);
     }
 
-  pub unknown_report : (t : State) (why : Why) (text : List ℕ) → IsStoppedFor steps p (cause_of why) t
+  unknown_report : (t : State) (why : Why) (text : List ℕ) → IsStoppedFor steps p (cause_of why) t
       → (is_quantifier_free p ≡ true → cause_of why ≢ Cause.saturated) → text ≡ unknown_text (cause_of why) (tree t)
       → IsReport steps p (Unknown why t) text
   unknown_report t why text s u e = record { reports = undecided t (cause_of why) s u; picked = s.grown.picked; written = e }
+
+  pub unknown_reported : (t : State) (why : Why) (o : Outcome) (text shown : Vec ℕ Global) → IsStoppedFor steps p (cause_of why) t
+      → (is_quantifier_free p ≡ true → cause_of why ≢ Cause.saturated) → shown.items ≡ unknown_text (cause_of why) (tree t)
+      → o ≡ Unknown why t → text ≡ shown → IsReport steps p o text.items
+  unknown_reported t why o text shown s u e same is =
+      subst (λ x. IsReport steps p x text.items) (sym same) (unknown_report t why text.items s u (ap items is ∙ e))
+    where
+      items : Vec ℕ Global → List ℕ
+      items v = v.items
 
   pub countermodel : (t : State) (v : List Valued) → IsStoppedFor steps p Cause.saturated t → is_quantifier_free p ≡ true
       → AtLeaf t (λ leaf. v ≡ valuation leaf.branch p) → IsCountermodel steps p v (tree t)

@@ -79,11 +79,7 @@ abbrev mutual
   terms_text names is_first Terms.none = []
   terms_text names is_first (Terms.more u us) = mark_text is_first ++ term_text names u ++ terms_text names false us
 
--- the term arguments behind type arguments, and the bracket behind the last argument
-abbrev pub rest_text : List Name → Tys → Terms → List ℕ
-rest_text names ts us = terms_text names (no_types ts) us ++ closing_text (no_types ts && no_terms us)
-
 -- an atom: its symbol, and its arguments as a term has them
 abbrev pub atom_text : List Name → Form → List ℕ
-atom_text names (Form.atom p ts us) = head_text names p ts ++ rest_text names ts us
+atom_text names (Form.atom p ts us) = head_text names p ts ++ (terms_text names (no_types ts) us ++ closing_text (no_types ts && no_terms us))
 atom_text names f = []

@@ -1,4 +1,4 @@
-ghost use Rattle.std.specs.Prelude.{◌≡◌, ◌++◌, ◌&&◌, OnOk, map, codes, cond, true, decimal};
+ghost use Rattle.std.specs.Prelude.{◌≡◌, ◌++◌, ◌&&◌, OnOk, map, true, decimal, nat_eq};
 ghost use Rattle.std.specs.List.{list_all};
 ghost use Rattle.tptp_lex.specs.Words.{is_word};
 ghost use Rattle.zm_logic.specs.View.{type_tree, types_tree, term_tree, terms_tree, form_tree};
@@ -103,6 +103,19 @@ fn no_terms(terms: &Items<Term>) -> bool
     }
 }
 
+fn no_arguments(types: &Items<Ty>, terms: &Items<Term>) -> bool
+    ensures { result ≡ (spec.no_types (types_tree types.now) && spec.no_terms (terms_tree terms.now)) }
+{
+    no_types(types) && no_terms(terms)
+}
+
+// The argument at this place of a list is the first of all.
+fn is_first_at(is_first: bool, place: usize) -> bool
+    ensures { result ≡ (is_first && nat_eq place 0) }
+{
+    is_first && place == 0
+}
+
 // Adds the mark before an argument.
 fn push_mark(text: &mut Vec<u8>, is_first: bool) -> Result<(), AllocError>
     ensures { OnOk result (text.new.items ≡ text.old.items ++ spec.mark_text is_first) }
@@ -181,23 +194,10 @@ fn push_term(text: &mut Vec<u8>, symbols: &[Symbol], term: &Term) -> Result<(), 
         Term::Meta(n, _) => push_numbered(text, b"$$m", *n),
         Term::App(f, types, terms) => {
             push_head(text, symbols, f.0, types)?;
-            push_rest(text, symbols, types, terms)
+            push_terms(text, symbols, no_types(types), terms)?;
+            push_closing(text, no_arguments(types, terms))
         }
     }
-}
-
-// Adds the term arguments behind type arguments, and the bracket behind the last argument.
-#[cycle(push_term)]
-fn push_rest(
-    text: &mut Vec<u8>,
-    symbols: &[Symbol],
-    types: &Items<Ty>,
-    terms: &Items<Term>,
-) -> Result<(), AllocError>
-    ensures { OnOk result (text.new.items ≡ text.old.items ++ spec.rest_text (map (λ s. s.name) symbols.now) (types_tree types.now) (terms_tree terms.now)) }
-{
-    push_terms(text, symbols, no_types(types), terms)?;
-    push_closing(text, no_types(types) && no_terms(terms))
 }
 
 // Adds term arguments, each behind its mark.
@@ -211,7 +211,7 @@ fn push_terms(
     ensures { OnOk result (text.new.items ≡ text.old.items ++ spec.terms_text (map (λ s. s.name) symbols.now) is_first (terms_tree terms.now)) }
 {
     for (i, term) in terms.as_slice().iter().enumerate() {
-        push_mark(text, is_first && i == 0)?;
+        push_mark(text, is_first_at(is_first, i))?;
         push_term(text, symbols, term)?;
     }
     Ok(())
@@ -224,7 +224,8 @@ pub fn push_atom(text: &mut Vec<u8>, symbols: &[Symbol], atom: &Form) -> Result<
     match atom {
         Form::Atom(p, types, terms) => {
             push_head(text, symbols, p.0, types)?;
-            push_rest(text, symbols, types, terms)
+            push_terms(text, symbols, no_types(types), terms)?;
+            push_closing(text, no_arguments(types, terms))
         }
         _ => Ok(()),
     }

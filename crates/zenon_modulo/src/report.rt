@@ -106,6 +106,22 @@ fn report_unknown(
     Ok(reported(alloc, outcome, text))
 }
 
+// A saturated tableau falsifies a problem without quantifiers; of another one it says nothing.
+fn report_saturated(
+    alloc: Global,
+    problem: &TypedProblem,
+    steps: u32,
+    tableau: Tableau<Open>,
+) -> Result<Answer, AllocError>
+    requires { IsStoppedFor steps (problem_tree problem.now) Cause.saturated tableau }
+    ensures { IfOk result (λ r. IsReport steps (problem_tree problem.now) r.outcome r.text.items) }
+{
+    if is_quantifier_free(problem.problem()) {
+        return report_falsified(alloc, problem, steps, tableau);
+    }
+    report_unknown(alloc, problem, steps, Why::Saturated, tableau)
+}
+
 fn report_open(
     alloc: Global,
     problem: &TypedProblem,
@@ -117,13 +133,7 @@ fn report_open(
     ensures { IfOk result (λ r. IsReport steps (problem_tree problem.now) r.outcome r.text.items) }
 {
     match why {
-        Why::Saturated => {
-            if is_quantifier_free(problem.problem()) {
-                report_falsified(alloc, problem, steps, tableau)
-            } else {
-                report_unknown(alloc, problem, steps, Why::Saturated, tableau)
-            }
-        }
+        Why::Saturated => report_saturated(alloc, problem, steps, tableau),
         Why::Steps => report_unknown(alloc, problem, steps, Why::Steps, tableau),
         Why::BranchLength => report_unknown(alloc, problem, steps, Why::BranchLength, tableau),
         Why::Rewrites { from } => {

@@ -3,7 +3,10 @@ use rule_select::keep_all;
 use sqlite_items::{Boxed, Items};
 use std::alloc::{AllocError, Global};
 use std::test::Fail;
-use zm_logic::{Form, Premises, Problem, Sense, SymId, Symbol, Symbols, Term, Terms, Text, Ty, Tys, TypedProblem};
+use zm_logic::{
+    Form, Premises, Problem, Sense, SymId, Symbol, Symbols, Term, Terms, Text, Ty, TypedProblem,
+    Tys,
+};
 
 fn individual(alloc: Global) -> Ty {
     Ty::Con(SymId(0), Tys::new(alloc))

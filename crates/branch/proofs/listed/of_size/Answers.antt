@@ -4,7 +4,7 @@ use Rattle.branch.proofs.Making.{is_listed, tree_is}
 use Rattle.branch.proofs.listed.of_size.Goals as goal
 
 pub returns-clause-listed : goal.returns-clause-listed
-returns-clause-listed c =
+returns-clause-listed c = λ s has sized.
     let r = c.args.raw.now in
     let slice : c.as_slice-children.result.now ≡ r.children = c.as_slice-children.ensures in
     let made : Listed = record {
@@ -19,10 +19,10 @@ returns-clause-listed c =
       raw = c.in_ok-formulas.formulas;
       normal = c.in_ok-normal.normal;
     } in
-    is_listed c.args.store.now r made (c.in_ok-formulas.ensures ∙ slice) (c.in_ok-normal.ensures ∙ slice) c.requires.has refl (ap length slice) c.requires.sized
+    is_listed s r made (c.in_ok-formulas.ensures ∙ slice) (c.in_ok-normal.ensures ∙ slice) has refl (ap length slice) sized
 
 pub returns-clause-tree : goal.returns-clause-tree
-returns-clause-tree c =
+returns-clause-tree c = λ s.
     let r = c.args.raw.now in
     let slice : c.as_slice-children.result.now ≡ r.children = c.as_slice-children.ensures in
     let made : Listed = record {
@@ -37,4 +37,4 @@ returns-clause-tree c =
       raw = c.in_ok-formulas.formulas;
       normal = c.in_ok-normal.normal;
     } in
-    tree_is c.args.store.now r made (c.in_ok-formulas.ensures ∙ slice) (c.in_ok-normal.ensures ∙ slice) refl
+    tree_is s r made (c.in_ok-formulas.ensures ∙ slice) (c.in_ok-normal.ensures ∙ slice) refl

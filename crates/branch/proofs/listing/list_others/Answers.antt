@@ -1,5 +1,5 @@
 use Rattle.std.proofs.Common.{map}
-use Rattle.std.proofs.lemmas.Result.{on_ok_weaker}
+use Rattle.std.proofs.lemmas.Result.{err_from_is_err_and, on_ok_weaker}
 use Rattle.zm_logic.specs.View.{symbol_tree}
 use Rattle.term_store.proofs.Kept.{extends_more}
 use Rattle.param_store.proofs.Stay.{forms_still}
@@ -43,5 +43,7 @@ returns-clause-kept c = extends_more c.args.store.now c.list_single.new.store c.
 
 pub returns-in_err-list_single-clause-deep : goal.returns-in_err-list_single-clause-deep
 returns-in_err-list_single-clause-deep c =
-    single_stops (map symbol_tree c.args.symbols.now) c.args.params.now c.args.forms.now c.args.store.now c.list_single.new.store c.args.later c.in_err-list_single.field-0
-    c.in_err-list_single.ensures.deep
+    let p = err_from_is_err_and c.from_residual.result c.from_residual.ensures.1 in
+    rw (p.1, p.2)
+    (single_stops (map symbol_tree c.args.symbols.now) c.args.params.now c.args.forms.now c.args.store.now c.list_single.new.store c.args.later
+    c.in_err-list_single.field-0.0 c.in_err-list_single.ensures.deep)

@@ -26,8 +26,10 @@ own_raws-requires-clause-known c = λ q.
 pub own_kind-requires : goal.own_kind-requires
 own_kind-requires c =
     let i = get_or c.args.forms.now c.args.later none in
-    still_form c.args.store.now c.own_raws.new.store c.in_ok-raws.ensures.kept i
-    (form_at_place c.args.store.now c.args.forms.now c.args.later none c.requires.within c.requires.has)
+    record {
+      has = still_form c.args.store.now c.own_raws.new.store c.in_ok-raws.ensures.kept i
+          (form_at_place c.args.store.now c.args.forms.now c.args.later none c.requires.within c.requires.has);
+    }
 
 pub put_all-requires-clause-has : goal.put_all-requires-clause-has
 put_all-requires-clause-has c = forms_still c.args.store.now c.own_raws.new.store c.in_ok-raws.ensures.kept c.args.forms.now c.requires.has
@@ -58,7 +60,7 @@ returns-clause-adds c = λ symbols.
 
 pub returns-in_err-raws-clause-deep : goal.returns-in_err-raws-clause-deep
 returns-in_err-raws-clause-deep c = λ symbols.
-    let p = err_from_is_err_and c.from_residual-in_err-raws.result c.from_residual-in_err-raws.ensures.1 in
+    let p = err_from_is_err_and c.from_residual.result c.from_residual.ensures.1 in
     rw (p.1, p.2)
     (own_deep c.args.store.now c.own_raws.new.store c.in_err-raws.ensures.kept symbols c.args.params.now c.args.forms.now c.requires.has c.requires.numbered
-    c.args.later none c.requires.within c.in_err-raws.field-0 c.in_err-raws.ensures.deep)
+    c.args.later none c.requires.within c.in_err-raws.field-0.0 c.in_err-raws.ensures.deep)

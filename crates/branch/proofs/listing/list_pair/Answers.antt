@@ -45,7 +45,7 @@ returns-clause-adds c =
 
 pub returns-in_err-raws-clause-deep : goal.returns-in_err-raws-clause-deep
 returns-in_err-raws-clause-deep c =
-    let p = err_from_is_err_and c.from_residual-in_err-raws.result c.from_residual-in_err-raws.ensures.1 in
+    let p = err_from_is_err_and c.from_residual.result c.from_residual.ensures.1 in
     rw (p.1, p.2)
     (pair_deep c.args.store.now c.pair_offers.new.store c.in_err-raws.ensures.kept (map symbol_tree c.args.symbols.now) c.args.params.now c.args.forms.now
-    c.requires.has c.requires.numbered c.args.later none c.requires.within c.args.earlier c.requires.earlier c.in_err-raws.field-0 c.in_err-raws.ensures.deep)
+    c.requires.has c.requires.numbered c.args.later none c.requires.within c.args.earlier c.requires.earlier c.in_err-raws.field-0.0 c.in_err-raws.ensures.deep)

@@ -1,4 +1,5 @@
-use Rattle.std.proofs.Common.{◌≡◌, map, subst, arith}
+use Rattle.std.proofs.Common.{◌≡◌, ◌<◌, map, subst, arith}
+use Rattle.std.proofs.lemmas.Result.{err_from_is_err_and}
 use Rattle.zm_logic.specs.View.{symbol_tree}
 use Rattle.term_store.proofs.Kept.{extends_itself, extends_more}
 use Rattle.param_store.proofs.Stay.{forms_still}
@@ -35,9 +36,12 @@ loop-earlier-preserved c =
 
 pub returns-in_err-list_pair-clause-deep : goal.returns-in_err-list_pair-clause-deep
 returns-in_err-list_pair-clause-deep c =
-    pairs_deep (map symbol_tree c.args.symbols.now) c.args.params.now c.args.forms.now c.args.store.now c.loop-earlier.store c.list_pair.new.store
-    c.loop-earlier.invariant.kept c.args.later c.loop-earlier.earlier (omega arith) c.requires.within c.args.listing.now.offers c.loop-earlier.listing.offers
-    c.loop-earlier.invariant.adds c.in_err-list_pair.field-0 c.in_err-list_pair.ensures.deep
+    let p = err_from_is_err_and c.from_residual.result c.from_residual.ensures.1 in
+    let less : c.loop-earlier.earlier < c.args.later = omega arith in
+    rw (p.1, p.2)
+    (pairs_deep (map symbol_tree c.args.symbols.now) c.args.params.now c.args.forms.now c.args.store.now c.loop-earlier.store c.list_pair.new.store
+    c.loop-earlier.invariant.kept c.args.later c.loop-earlier.earlier less c.requires.within c.args.listing.now.offers c.loop-earlier.listing.offers
+    c.loop-earlier.invariant.adds c.in_err-list_pair.field-0.0 c.in_err-list_pair.ensures.deep)
 
 pub returns-in_err-list_pair-clause-kept : goal.returns-in_err-list_pair-clause-kept
 returns-in_err-list_pair-clause-kept c =

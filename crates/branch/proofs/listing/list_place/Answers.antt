@@ -1,5 +1,5 @@
 use Rattle.std.proofs.Common.{map, sym, subst, OnOk, IfErr}
-use Rattle.std.proofs.lemmas.Result.{on_ok_weaker}
+use Rattle.std.proofs.lemmas.Result.{err_from_is_err_and, on_ok_weaker}
 use Rattle.zm_logic.specs.View.{symbol_tree}
 use Rattle.term_store.proofs.Kept.{extends_more}
 use Rattle.param_store.specs.View.{HasForms}
@@ -55,5 +55,7 @@ returns-clause-kept c = extends_more c.args.store.now c.list_own.new.store c.lis
 pub returns-in_err-list_own-clause-deep : goal.returns-in_err-list_own-clause-deep
 returns-in_err-list_own-clause-deep c =
     let symbols = map symbol_tree c.args.symbols.now in
-    own_stops symbols c.args.params.now c.args.forms.now c.args.store.now c.list_own.new.store c.args.later c.in_err-list_own.field-0
-    (c.in_err-list_own.ensures.deep symbols)
+    let p = err_from_is_err_and c.from_residual.result c.from_residual.ensures.1 in
+    rw (p.1, p.2)
+    (own_stops symbols c.args.params.now c.args.forms.now c.args.store.now c.list_own.new.store c.args.later c.in_err-list_own.field-0.0
+    (c.in_err-list_own.ensures.deep symbols))

@@ -1,8 +1,8 @@
-use Rattle.std.proofs.Common.{None, List, ◌++◌, map, sym, subst}
+use Rattle.std.proofs.Common.{None, map, sym, subst}
 use Rattle.std.proofs.lemmas.Result.{err_from_is_err_and}
 use Rattle.zm_logic.specs.View.{symbol_tree}
 use Rattle.term_store.specs.declared.ids.FormId.{FormId}
-use Rattle.param_store.specs.View.{forms_of, raw_of, HasRaws}
+use Rattle.param_store.specs.View.{HasRaws}
 use Rattle.param_store.proofs.Stay.{forms_still}
 use Rattle.branch.specs.BranchOffers.{Kind}
 use Rattle.branch.proofs.Adding.{Puts, single_adds, single_deep}
@@ -42,7 +42,7 @@ returns-clause-adds c =
 
 pub returns-in_err-raws-clause-deep : goal.returns-in_err-raws-clause-deep
 returns-in_err-raws-clause-deep c =
-    let p = err_from_is_err_and c.from_residual-in_err-raws.result c.from_residual-in_err-raws.ensures.1 in
+    let p = err_from_is_err_and c.from_residual.result c.from_residual.ensures.1 in
     rw (p.1, p.2)
     (single_deep c.args.store.now c.single_offers.new.store c.in_err-raws.ensures.kept (map symbol_tree c.args.symbols.now) c.args.params.now c.args.forms.now
-    c.requires.has c.requires.numbered c.args.later none c.requires.within c.in_err-raws.field-0 c.in_err-raws.ensures.deep)
+    c.requires.has c.requires.numbered c.args.later none c.requires.within c.in_err-raws.field-0.0 c.in_err-raws.ensures.deep)

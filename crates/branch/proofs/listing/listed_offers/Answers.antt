@@ -1,6 +1,9 @@
-use Rattle.std.proofs.Common.{◌≡◌, ◌+◌, [], map, length, refl, sym, subst, ◌∙◌, arith}
+use Rattle.std.proofs.Common.{◌≡◌, ◌+◌, List, [], map, length, refl, sym, subst, ◌∙◌, arith}
+use Rattle.std.proofs.lemmas.Result.{err_from_is_err_and}
 use Rattle.zm_logic.specs.View.{symbol_tree}
 use Rattle.term_store.specs.Open.{HasRedex, redex_of}
+use Rattle.term_store.specs.declared.ids.FormId.{FormId}
+use Rattle.term_store.specs.declared.opening.Redex.{Redex}
 use Rattle.term_store.proofs.Kept.{extends_itself, extends_more}
 use Rattle.param_store.specs.View.{forms_of, HasForms}
 use Rattle.param_store.proofs.Stay.{forms_still}
@@ -11,6 +14,7 @@ use Rattle.branch.specs.Listed.{IfStop, listed_of}
 use Rattle.branch.specs.Listing.{AddsPart, AreNumbered, IsTooDeep}
 use Rattle.branch.specs.Offers.{AreOffers, HasFault}
 use Rattle.branch.proofs.Adding.{if_stop}
+use Rattle.branch.proofs.Outcomes.{if_err_is}
 use Rattle.branch.proofs.Parted.{places_none, places_more, places_deep, all_listed, each_listed, stopped, IsFault}
 use Rattle.branch.proofs.Ready.{known_still}
 use Rattle.branch.proofs.Sizing.{nothing_kept}
@@ -70,17 +74,17 @@ returns-in_err-list_place-clause-deep c =
     let j = c.loop-later.later in
     let m = c.loop-later.listing.offers in
     let kept = extends_more u v w c.loop-later.invariant.kept c.in_err-list_place.ensures.kept in
-    let stop = c.in_err-list_place.field-0 in
+    let stop = c.in_err-list_place.field-0.0 in
     let deep = subst (λ ps. IfStop (IsTooDeep (PlaceAt j) v w symbols ps forms) stop) c.loop-later.invariant.params c.in_err-list_place.ensures.deep in
     let named = if_stop (IsTooDeep (PlaceAt j) v w symbols params forms) (IsFault symbols params forms u w kept c.requires.has c.requires.numbered c.requires.no_equality)
     (λ at z. stopped symbols params forms u w kept c.requires.has c.requires.numbered c.requires.no_equality (j + 1) at
     (places_deep symbols params forms u v w c.loop-later.invariant.kept j c.loop-later-test.true [] m c.loop-later.invariant.adds at z))
     stop deep in
-    subst
-    (λ ps. IfStop
-    (λ at. HasRedex w at × ((s : Setting) → s.symbols ≡ symbols → s.rules ≡ [] → HasFault s (forms_of w ps) (forms_of w forms) (Fault.deep (redex_of w at))))
-    stop)
-    (sym (c.in_err-list_place.ensures.params ∙ c.loop-later.invariant.params)) named
+    let p = err_from_is_err_and c.from_residual.result c.from_residual.ensures.1 in
+    let IsNamed : List FormId → Redex → Type 0 =
+    λ ps at. HasRedex w at × ((s : Setting) → s.symbols ≡ symbols → s.rules ≡ [] → HasFault s (forms_of w ps) (forms_of w forms) (Fault.deep (redex_of w at))) in
+    if_err_is c.from_residual.result (IfStop (IsNamed c.list_place.new.params)) p.0 stop p.1 p.2
+    (subst (λ ps. IfStop (IsNamed ps) stop) (sym (c.in_err-list_place.ensures.params ∙ c.loop-later.invariant.params)) named)
 
 pub returns-in_err-list_place-clause-kept : goal.returns-in_err-list_place-clause-kept
 returns-in_err-list_place-clause-kept c =

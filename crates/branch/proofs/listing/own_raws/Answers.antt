@@ -1,4 +1,4 @@
-use Rattle.std.proofs.Common.{◌≡◌, IfOk, sym, subst, ◌∙◌}
+use Rattle.std.proofs.Common.{IfOk, subst, ◌∙◌}
 use Rattle.std.proofs.lemmas.Result.{on_ok_weaker}
 use Rattle.term_store.specs.Trees.{form_of}
 use Rattle.param_store.specs.RawOffers.{own_offers}

@@ -1,4 +1,4 @@
-use Rattle.std.proofs.Common.{◌≡◌, ◌-◌, ◌+◌, ◌<◌, ◌≤◌, ◌++◌, ◌∷◌, [], suc, true, false, length, take, drop, map, ap, sym, subst, ◌∙◌, slice_index_or, rules, arith}
+use Rattle.std.proofs.Common.{◌≡◌, ◌-◌, ◌+◌, ◌<◌, ◌≤◌, ◌++◌, ◌∷◌, [], suc, length, take, drop, map, ap, sym, subst, ◌∙◌, slice_index_or, rules, arith}
 use Rattle.branch.specs.declared.node.Node.TheFolds.{fold-roll-Node}
 use Rattle.branch.specs.declared.node.Node.TheOpen as layer
 use Rattle.branch.specs.declared.node.Node.TheViews.{rolls-Step}

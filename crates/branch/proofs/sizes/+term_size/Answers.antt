@@ -1,8 +1,9 @@
 -- The ids of the list are ids of the store, and their trees are less deep.
-use Rattle.std.proofs.Common.{length, get_or, take, ap, sym, ◌∙◌, arith}
+use Rattle.std.proofs.Common.{◌≡◌, length, get_or, take, ap, sym, ◌∙◌, arith}
+use Rattle.std.proofs.lemmas.Result.{IfOk-weaker}
 use Rattle.zm_logic.specs.Measure.{term_size, terms_size}
 use Rattle.term_store.specs.Node.{term_at, terms_at}
-use Rattle.term_store.specs.Trees.{all_trees}
+use Rattle.term_store.specs.Trees.{all_trees, term_of}
 use Rattle.term_store.specs.declared.ids.TermId.{TermId}
 use Rattle.term_store.proofs.Loops.{term_below_at}
 use Rattle.term_store.proofs.Stays.{term_depth_at_within}
@@ -32,3 +33,11 @@ term_sizes-loop-id-preserved t c =
       sized = c.saturating_add-all.ensures ∙ (sum ∙ sym (ap capped (terms_size_more terms ids i none c.loop-id-test.true)));
       knows = c.in_ok-size.ensures.knows;
     }
+
+pub term_size-returns-clause-value : goal.term_size-returns-clause-value
+term_size-returns-clause-value t c =
+    IfOk-weaker c.keep_term.result (λ n. n ≡ c.in_ok-size.size) (λ n. n ≡ capped (term_size (term_of c.args.store.now c.args.id)))
+    (λ n e. e ∙ c.in_ok-size.ensures.value) c.keep_term.ensures.value
+
+pub term_size-returns-clause-knows : goal.term_size-returns-clause-knows
+term_size-returns-clause-knows t c = c.keep_term.ensures.knows c.args.store.now c.requires.has c.in_ok-size.ensures.value c.in_ok-size.ensures.knows

@@ -1,8 +1,9 @@
 -- The ids of the list are ids of the store, and their trees are less deep.
-use Rattle.std.proofs.Common.{length, get_or, take, ap, sym, ◌∙◌, arith}
+use Rattle.std.proofs.Common.{◌≡◌, length, get_or, take, ap, sym, ◌∙◌, arith}
+use Rattle.std.proofs.lemmas.Result.{IfOk-weaker}
 use Rattle.zm_logic.specs.Measure.{type_size, types_size}
 use Rattle.term_store.specs.Node.{type_at, types_at}
-use Rattle.term_store.specs.Trees.{all_trees}
+use Rattle.term_store.specs.Trees.{all_trees, type_of}
 use Rattle.term_store.specs.declared.ids.TyId.{TyId}
 use Rattle.term_store.proofs.Loops.{type_below_at}
 use Rattle.term_store.proofs.Stays.{type_depth_at_within}
@@ -32,3 +33,11 @@ ty_sizes-loop-id-preserved t c =
       sized = c.saturating_add-all.ensures ∙ (sum ∙ sym (ap capped (types_size_more types ids i none c.loop-id-test.true)));
       knows = c.in_ok-size.ensures.knows;
     }
+
+pub ty_size-returns-clause-value : goal.ty_size-returns-clause-value
+ty_size-returns-clause-value t c =
+    IfOk-weaker c.keep_type.result (λ n. n ≡ c.in_ok-size.size) (λ n. n ≡ capped (type_size (type_of c.args.store.now c.args.id)))
+    (λ n e. e ∙ c.in_ok-size.ensures.value) c.keep_type.ensures.value
+
+pub ty_size-returns-clause-knows : goal.ty_size-returns-clause-knows
+ty_size-returns-clause-knows t c = c.keep_type.ensures.knows c.args.store.now c.requires.has c.in_ok-size.ensures.value c.in_ok-size.ensures.knows

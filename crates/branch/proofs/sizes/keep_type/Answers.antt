@@ -6,8 +6,7 @@ use Rattle.branch.proofs.Sizing.{type_kept}
 use Rattle.branch.proofs.sizes.keep_type.Goals as goal
 
 pub returns-clause-knows : goal.returns-clause-knows
-returns-clause-knows c =
-    let s = c.args.store.now in
-    let known = type_kept (λ i n. HasType s i × (n ≡ capped (type_size (type_of s i)))) c.args.kept.now.types c.insert.new.self c.args.id c.args.size c.in_ok-insert.ensures.updates.0
-    c.requires.knows.types (c.requires.has, c.requires.sized) in
-    record { types = known; terms = c.requires.knows.terms; forms = c.requires.knows.forms }
+returns-clause-knows c = λ s has sized knows.
+    let known = type_kept (λ i n. HasType s i × (n ≡ capped (type_size (type_of s i)))) c.args.kept.now.types c.insert.new.self c.args.id c.args.size
+    c.in_ok-insert.ensures.updates.0 knows.types (has, sized) in
+    record { types = known; terms = knows.terms; forms = knows.forms }

@@ -1,4 +1,4 @@
-use Rattle.std.proofs.Common.{◌≡◌, get_or, rules, arith}
+use Rattle.std.proofs.Common.{◌≡◌, get_or, rules}
 use Rattle.branch.proofs.OpenSteps.{open_pushed}
 use Rattle.branch.proofs.stepping.open_children.Goals as goal
 

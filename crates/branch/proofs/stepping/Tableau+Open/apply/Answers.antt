@@ -1,9 +1,6 @@
 use Rattle.std.proofs.lemmas.Result.{on_ok_weaker}
-use Rattle.branch.proofs.SameState.{open_same, unclosed_same, offer_same, short_same, few_same, applied_same}
+use Rattle.branch.proofs.SameState.{unclosed_same, offer_same, short_same, few_same, applied_same}
 use Rattle.branch.proofs.stepping.Tableau+Open.apply.Goals as goal
-
-pub take-requires-clause-open : goal.take-requires-clause-open
-take-requires-clause-open c = open_same c.args.self.now c.list.new.self c.kept.ensures c.in-Ok.ensures.same c.requires.open
 
 pub take-requires-clause-unclosed : goal.take-requires-clause-unclosed
 take-requires-clause-unclosed c = unclosed_same c.args.self.now c.list.new.self c.kept.ensures c.in-Ok.ensures.same c.requires.unclosed
