@@ -1,5 +1,5 @@
 -- What the type of tableaux keeps: as the store grows, as a Step is put, and as a leaf is closed.
-use Rattle.std.proofs.Common.{◌≡◌, ℕ, zero, suc, ◌+◌, ◌<◌, ◌≤◌, false, refl, ap, sym, subst, ◌∙◌, List, [], ◌∷◌, ◌++◌, length, Option, None, Some, IfSome, not, is_some, arith}
+use Rattle.std.proofs.Common.{◌≡◌, Bool, ℕ, zero, suc, ◌+◌, ◌<◌, ◌≤◌, true, false, refl, ap, sym, subst, ◌∙◌, List, [], ◌∷◌, ◌++◌, length, Option, None, Some, IfSome, map, not, is_some, arith}
 use Rattle.std.specs.Option.{option_map}
 use Rattle.std.proofs.lemmas.List.{length-append, append-nil}
 use Rattle.zm_logic.specs.Tree.{Form}
@@ -18,12 +18,13 @@ use Rattle.branch.specs.Branch.{closing, extend}
 use Rattle.branch.specs.Sound.{AreGiven}
 use Rattle.branch.specs.EqualityFree.{AreEqualityFree}
 use Rattle.branch.specs.Tableau as tableau
-use Rattle.branch.specs.Tableau.{Leaf, IsTableau, IsLawful, current_leaf, enter, count, picks, height, height_all, is_skipped}
+use Rattle.branch.specs.Tableau.{IsTableau, IsLawful, current_leaf, enter, count, picks, height, height_all, is_skipped}
 use Rattle.branch.specs.Laws.{LeavesMayBeReplaced, ReplacedLeavesAreCurrent, IsGrown}
 use Rattle.branch.specs.Replaced.{replaced}
 use Rattle.branch.specs.Ids.{Node, Children, node_ids, tree_of, trees_of, closing_of, HasNode, HasClosing}
 use Rattle.branch.specs.Path.{IsFinished, IsFirst, IsFirstOf, put, next, along, brought, extend_all}
 use Rattle.branch.specs.State.{State, setting, given_ids, normal_ids, given_forms, root, table, tree, IsBegun, IsTree, branch_at, leaf_at, HasOffers, IsCurrent, HasCurrent, IsKept}
+use Rattle.branch.specs.Stepped.{IsAbove, IsOfBranch}
 use Rattle.branch.proofs.Paths.{put_replaced, step_first, lawful_behind, finished_tree, first_unfinished}
 use Rattle.branch.proofs.Moves.{next_none, next_first, next_current}
 use Rattle.branch.proofs.Standing.{closing_still, closing_stays, node_still, tree_stays, put_has}
@@ -287,3 +288,37 @@ open_some t k o = noted t t.current refl k.current o where
       → (c : Current) × (t.current ≡ Some c) × IsCurrent t c
   noted t None e h o = let f = finished_tree t.store (node_ids t.node) h in absurd (let z = sym f ∙ o in cc)
   noted t (Some c) e h o = (c, e, h)
+
+turned : (b v : Bool) → b ≡ not v → v ≡ not b
+turned b true e = sym (ap not e)
+turned b false e = sym (ap not e)
+
+pub none_finished : (t u : State) (v : Bool) → t ≡ u → IsKept t → is_some t.current ≡ not v → v ≡ tableau.is_finished (tree u)
+none_finished t u v same k e = turned (is_some t.current) v e ∙ finished_none t k ∙ ap (λ z. tableau.is_finished (tree z)) same
+
+pub some_noted : (t u : State) → t ≡ u → IsKept t → tableau.is_finished (tree u) ≡ false → is_some t.current ≡ true
+some_noted t u same k o = by (is_some t.current) (finished_none t k ∙ ap (λ z. tableau.is_finished (tree z)) same ∙ o) where
+  by : (v : Bool) → not v ≡ false → v ≡ true
+  by true e = refl
+  by false e = cc
+
+pub none_noted : (t u : State) → t ≡ u → IsKept t → is_some t.current ≡ false → tableau.is_finished (tree u) ≡ true
+none_noted t u same k e = sym (finished_none t k ∙ ap (λ z. tableau.is_finished (tree z)) same) ∙ ap not e
+
+pub some_unfinished : (t u : State) → t ≡ u → IsKept t → is_some t.current ≡ true → tableau.is_finished (tree u) ≡ false
+some_unfinished t u same k e = sym (finished_none t k ∙ ap (λ z. tableau.is_finished (tree z)) same) ∙ ap not e
+
+-- what is known of the noted leaf
+pub noted_is : (t : State) (c : Current) → IsKept t → t.current ≡ Some c → IsCurrent t c
+noted_is t c k e = subst (HasCurrent t) e k.current
+
+-- so many Steps stand above it
+pub above_is : (t u : State) (c : Current) (n : ℕ) → t ≡ u → IsKept t → Some c ≡ t.current → n ≡ length c.path → IsAbove u n
+above_is t u c n same k e l =
+    subst (λ z. IsAbove z n) same (record { leaf = leaf_at t c; is_current = (noted_is t c k (sym e)).leaf; holds = sym l })
+
+-- and this is its branch
+pub branch_is : (t u : State) (c : Current) → t ≡ u → IsKept t → Some c ≡ t.current → IsOfBranch u c.branch
+branch_is t u c same k e =
+    let h = noted_is t c k (sym e) in
+    subst (λ z. IsOfBranch z c.branch) same (record { leaf = leaf_at t c; is_current = h.leaf; has = h.has; forms = refl; closing = h.closing })

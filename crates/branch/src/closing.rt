@@ -62,6 +62,7 @@ fn denial_closes(store: &Store, form: FormId) -> bool
     }
 }
 
+// Whether a formula closes a branch alone.
 fn closes_alone(store: &Store, form: FormId) -> bool
     requires { HasForm store.now form }
     ensures { result ≡ spec.closes_alone (form_of store.now form) }
@@ -104,6 +105,7 @@ fn denied(store: &Store, form: FormId) -> Option<FormId>
     }
 }
 
+// Whether a formula is an equality.
 fn is_equality(store: &Store, form: FormId) -> bool
     requires { HasForm store.now form }
     ensures { result ≡ spec_denied.is_equation (tree.Form.negation (form_of store.now form)) }
@@ -210,6 +212,7 @@ fn swapped_pair(store: &Store, earlier: FormId, later: FormId) -> Option<Closing
     None
 }
 
+// Two formulas that close a branch together.
 fn pair(first: FormId, second: FormId, swapped: bool) -> ClosingPair
     ensures first { result.first ≡ first }
     ensures second { result.second ≡ Some second }

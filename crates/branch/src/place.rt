@@ -45,6 +45,7 @@ pub(crate) fn put_at(node: Node, path: &[usize], new: Node) -> Node
     }
 }
 
+// Puts a node in the place of the first Open leaf among children: below the one at this place, where a path leads from it.
 #[cycle(put_at)]
 fn put_in(children: &mut Vec<Child>, place: usize, rest: &[usize], new: Node)
     requires { IsFirstOf place rest.now (children_of (map child_ids children.old.items)) }

@@ -33,18 +33,21 @@ impl Sizes {
     }
 }
 
+// The size of a type, if it is kept.
 fn kept_type(kept: &Sizes, id: TyId) -> Option<u64>
     ensures { result ≡ get (λ x y. nat_eq x.0 y.0) kept.now.types id }
 {
     kept.types.get(&id).copied()
 }
 
+// The size of a term, if it is kept.
 fn kept_term(kept: &Sizes, id: TermId) -> Option<u64>
     ensures { result ≡ get (λ x y. nat_eq x.0 y.0) kept.now.terms id }
 {
     kept.terms.get(&id).copied()
 }
 
+// The size of a formula, if it is kept.
 fn kept_form(kept: &Sizes, id: FormId) -> Option<u64>
     ensures { result ≡ get (λ x y. nat_eq x.0 y.0) kept.now.forms id }
 {

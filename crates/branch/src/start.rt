@@ -148,7 +148,11 @@ pub(crate) fn branch_of(store: &Store, forms: FormIds) -> Branch
 }
 
 impl Tableau<Open> {
-    /// Begins a tableau of a problem's kept premises and its negated conjecture: one Open leaf.
+    /// Begins a tableau of a problem's kept premises and its negated conjecture: one Open leaf. `rewrites` is the greatest
+    /// number of steps of rewriting for a normal form.
+    ///
+    /// The conditions are that the selection keeps every premise, so that there are no rules and each formula is its own
+    /// normal form, and that no equality stands in the problem. The one error is want of memory.
     pub fn start(
         alloc: Global,
         problem: &TypedProblem,

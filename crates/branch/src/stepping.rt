@@ -19,16 +19,15 @@ ghost use Rattle.branch.specs.Stepped.{IsOpen, IsUnclosed, AtLeaf, HasOffer, IsA
 ghost use Rattle.branch.specs.Stepping.{AreOffersOf, ClosesCurrent, GoesTo, HasListed, IsLeaf, IsListedAt, IsListing, closed_ids, open_leaf, open_leaves, step_ids};
 
 use crate::along::{add_along, brought};
-use crate::closing::closing_pair;
 use crate::entering::{add_all, number_all};
 use crate::listed::Listed;
 use crate::listing::listed_offers;
 use crate::next::next_path;
 use crate::node::{Child, ClosingPair, Node};
 use crate::place::put_at;
-use crate::start::root_forms;
+use crate::start::{branch_of, root_forms};
 use crate::stop::BranchStop;
-use crate::tableau::{Branch, Current, Offered, Open, Rooted, Tableau};
+use crate::tableau::{Current, Offered, Open, Rooted, Tableau};
 use choosers::Offer;
 use param_store::Params;
 use sqlite_items::Items;
@@ -175,10 +174,10 @@ fn leaf_of(store: &Store, path: Items<usize>, forms: FormIds) -> Current
     requires { HasForms store.now forms }
     ensures { IsLeaf store.now path (forms_of store.now forms) result }
 {
-    let closing = closing_pair(store, forms.as_slice());
+    let branch = branch_of(store, forms);
     Current {
         path,
-        branch: Branch { forms, closing },
+        branch,
         offered: None,
     }
 }
@@ -275,7 +274,11 @@ impl Tableau<Open> {
         current.offered.as_ref().unwrap().seen.as_slice()
     }
 
-    /// The offers of the current branch, in order.
+    /// The offers of the current branch, in order. They are listed once, and are kept until the tableau changes.
+    ///
+    /// The conditions are that some leaf is Open, and that its branch isn't closed. Besides want of memory there is one
+    /// error, `Deep`: it tells what is too deep of the first offer that can't be made. After an error the tableau is as it
+    /// was, but that more nodes may stand in its store.
     pub fn offers(&mut self) -> Result<&[Offer], BranchStop>
         requires open { IsOpen self.old }
         requires unclosed { IsUnclosed self.old }
@@ -306,7 +309,11 @@ impl Tableau<Open> {
         Ok(())
     }
 
-    /// Puts the Step that takes the offer of this number, and goes to its first child.
+    /// Puts the Step that takes the offer of this number, counted from 0, and goes to its first child.
+    ///
+    /// The conditions are that some leaf is Open, that its branch isn't closed, has such an offer and fewer than 512 Steps,
+    /// and that the tableau has fewer than 1,000,000. The one error is want of memory. After it the tableau is as it was,
+    /// but that the offers may be listed.
     pub fn apply(&mut self, pick: usize) -> Result<(), AllocError>
         requires open { IsOpen self.old }
         requires unclosed { IsUnclosed self.old }
@@ -358,8 +365,10 @@ impl Tableau<Open> {
         self.current = None;
     }
 
-    /// Marks the current leaf as closed, and goes to the next Open leaf, if there is one. After want of memory the tableau
-    /// is as it was.
+    /// Marks the current leaf as closed, and goes to the next Open leaf, if there is one.
+    ///
+    /// The conditions are that some leaf is Open, and that its branch is closed. The one error is want of memory. After it
+    /// the tableau is as it was.
     pub fn close_leaf(&mut self) -> Result<(), AllocError>
         requires open { IsOpen self.old }
         requires closed { AtLeaf self.old (λ leaf. closing leaf.branch ≢ None) }

@@ -136,7 +136,7 @@ impl<S> Tableau<S> {
         self.picks.len() as u32
     }
 
-    /// The picks of the Steps, in preorder.
+    /// The picks of the Steps, in preorder. The one error is want of memory.
     pub fn picks(&self, alloc: Global) -> Result<Items<usize>, AllocError>
         ensures { IfOk result (λ ks. ks ≡ spec.picks (tree self.now)) }
     {

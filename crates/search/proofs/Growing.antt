@@ -1,5 +1,5 @@
 -- What a search keeps, as a Step is put and as a leaf is closed.
-use Rattle.std.proofs.Common.{◌≡◌, ◌≢◌, ℕ, zero, suc, ◌+◌, ◌<◌, ◌≤◌, max, Bool, true, false, refl, ap, sym, subst, ◌∙◌, List, [], ◌∷◌, ◌++◌, Some, None, map, All, inl, inr, ◌⊎◌, arith}
+use Rattle.std.proofs.Common.{◌≡◌, ◌≢◌, ℕ, zero, suc, ◌+◌, ◌<◌, ◌≤◌, max, Bool, true, false, refl, ap, sym, subst, ◌∙◌, List, [], ◌∷◌, ◌++◌, Some, None, map, length, All, inl, inr, ◌⊎◌, arith}
 use Rattle.std.proofs.lemmas.List.Elements.{All-push}
 use Rattle.std.proofs.lemmas.List.{append-nil}
 use Rattle.zm_logic.specs.Tree.{Form, Problem}
@@ -20,14 +20,20 @@ use Rattle.branch.specs.Replaced.{opening, replaced}
 use Rattle.branch.specs.Laws.{IsGrown}
 use Rattle.branch.specs.Stopping.{Cause, IsRoot, StopsAt, StopsInside, Stopped}
 use Rattle.branch.specs.State.{State, IsBegun, IsKept, setting, given_ids, normal_ids, given_forms, root, tree}
-use Rattle.branch.specs.Stepped.{IsOf, IsSame, IsOpen, IsUnclosed, AtLeaf, IsApplied, IsClosedAt, IsStarted}
+use Rattle.branch.specs.Stepped.{IsOf, IsSame, IsOpen, IsUnclosed, AtLeaf, IsApplied, IsClosedAt, IsStarted, AreSeen, AreOffersSeen, IsTooDeep}
+use Rattle.branch.specs.Listed.{IfStop}
+use Rattle.branch.specs.Causes.{cause_of}
+use Rattle.branch.specs.declared.why.Why.{Why}
+use Rattle.branch.specs.declared.stop.BranchStop.{BranchStop}
+use Rattle.branch.specs.declared.stop.BranchStop.TheVariants as stops
+use Rattle.choosers.specs.declared.offer.Offer as code
 use Rattle.branch.proofs.Lawful.{leaves_may_be_replaced, open_tableaux_have_a_current_leaf}
 use Rattle.branch.proofs.NoRules.{itself}
 use Rattle.branch.proofs.Replacing.{step_lawful}
 use Rattle.branch.proofs.Standing.{tree_stays}
 use Rattle.branch.proofs.States.{open_some}
 use Rattle.search.specs.OpenLeaves.{open_leaves}
-use Rattle.search.specs.Searched.{IsGrownOf, StaysGrown, StopsHere}
+use Rattle.search.specs.Searched.{IsGrownOf, StaysGrown, StopsHere, IsSettled, HasOffers, HasStop, IsWhyOf}
 use Rattle.search.proofs.Fewer.{closed_fewer}
 
 leaf_is : (x y : Leaf) → Some x ≡ Some y → x ≡ y
@@ -187,3 +193,47 @@ stopped_here p steps rewrites t why g s = Stopped.inside (record {
   unclosed = s.holds.0;
   stops = s.holds.1;
 })
+
+-- one change after another, of which the second takes no Step away
+pub stays_on : (t u v : State) → StaysGrown t u → StaysGrown u v → count (tree u) ≤ count (tree v) → StaysGrown t v
+stays_on t u v g h l p steps rewrites within k = h p steps rewrites within (g p steps rewrites (omega (arith, l, within)) k)
+
+pub stays_here : (t : State) → StaysGrown t t
+stays_here t p steps rewrites within k = k
+
+-- where some leaf is Open, and the branch of the first is closed or isn't
+pub unclosed_here : (t : State) → IsSettled t → is_finished (tree t) ≡ false → IsUnclosed t
+unclosed_here t (inl f) e = absurd (let q = sym f ∙ e in cc)
+unclosed_here t (inr u) e = u
+
+-- a chooser sees as many offers as there are
+pub seen_length : (os : List Offer) (cs : List code.Offer) → AreSeen os cs → length os ≡ length cs
+seen_length [] [] h = refl
+seen_length [] (c ∷ cs) h = absurd h
+seen_length (o ∷ os) [] h = absurd h
+seen_length (o ∷ os) (c ∷ cs) h = let k = seen_length os cs h.1 in omega arith
+
+pub seen_offers : (t : State) (cs : List code.Offer) → AreOffersSeen t cs → HasOffers t (length cs)
+seen_offers t cs a =
+    record { leaf = a.leaf; is_current = a.is_current; holds = (a.holds.0, a.holds.1, seen_length a.holds.0 cs a.holds.2) }
+
+-- what stops the offers
+pub has_stop : (t : State) (stop : BranchStop) → IfStop (IsTooDeep t) stop → HasStop t.store stop
+has_stop t stops.Memory h = tt
+has_stop t (stops.Spent from) h = absurd h
+has_stop t (stops.Deep at) h = h.0
+
+pub deep_here : (steps : ℕ) (t : State) (stop : BranchStop) (why : Why) → IsUnclosed t → IfStop (IsTooDeep t) stop → IsWhyOf t.store stop why
+    → StopsHere steps t (cause_of why)
+deep_here steps t stops.Memory why u h w = absurd w
+deep_here steps t (stops.Spent from) why u h w = absurd h
+deep_here steps t (stops.Deep at) why u h w =
+    let a = h.1 in
+    record {
+      leaf = a.leaf;
+      is_current = a.is_current;
+      holds = (
+        at_leaf t (λ leaf. closing leaf.branch ≡ None) a.leaf u a.is_current,
+        subst (StopsAt (setting t) steps (count (tree t)) a.leaf) (sym w) a.holds,
+      );
+    }

@@ -3,8 +3,11 @@ use Rattle.std.specs.Prelude.{ℕ, ◌≡◌, ◌≤◌, ◌<◌, ◌+◌, suc, 
 use Rattle.zm_logic.specs.Tree.{Problem}
 use Rattle.zm_logic.specs.View.{symbol_tree}
 use Rattle.zm_logic.specs.Truth.{refuted}
+use Rattle.term_store.specs.Trees.{Tables, HasForm, form_of}
+use Rattle.term_store.specs.Open.{HasRedex, redex_of}
 use Rattle.branch.specs.declared.why.Why.{Why}
 use Rattle.branch.specs.declared.stop.BranchStop.{BranchStop}
+use Rattle.branch.specs.declared.stop.BranchStop.TheVariants as stops
 use Rattle.branch.specs.Branch.{closing}
 use Rattle.branch.specs.Offers.{Offer, AreOffers}
 use Rattle.branch.specs.Tableau.{count, picks, is_finished}
@@ -47,6 +50,18 @@ StopsHere steps t why = AtLeaf t (λ leaf. (closing leaf.branch ≡ None) × Sto
 abbrev pub IsChecked : ℕ → State → Option Why → Type 0
 IsChecked steps t None = HasOffer t 0 × AtLeaf t (λ leaf. leaf.above < 512) × (count (tree t) < steps)
 IsChecked steps t (Some why) = StopsHere steps t (cause_of why)
+
+-- the ids of a stop are the store's
+abbrev pub HasStop : Tables → BranchStop → Type 0
+HasStop s stops.Memory = Unit {0}
+HasStop s (stops.Spent from) = HasForm s from
+HasStop s (stops.Deep at) = HasRedex s at
+
+-- the reason that a stop gives; want of memory is none
+abbrev pub IsWhyOf : Tables → BranchStop → Why → Type 0
+IsWhyOf s stops.Memory why = ⊥
+IsWhyOf s (stops.Spent from) why = cause_of why ≡ Cause.rewrites (form_of s from)
+IsWhyOf s (stops.Deep at) why = cause_of why ≡ Cause.deep (redex_of s at)
 
 -- how a search ends: no leaf is Open, or it stops at the current leaf
 abbrev pub IsEnded : ℕ → State → Option Why → Type 0

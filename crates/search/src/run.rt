@@ -8,13 +8,11 @@ ghost use Rattle.rule_select.specs.View.{selection_tree};
 ghost use Rattle.branch.specs.Branch.{closing};
 ghost use Rattle.branch.specs.EqualityFree.{AreEqualityFree};
 ghost use Rattle.branch.specs.Tableau as spec;
-ghost use Rattle.branch.specs.Stopping.{Cause};
 ghost use Rattle.branch.specs.Listed.{IfStop};
-ghost use Rattle.branch.specs.Causes.{cause_of};
 ghost use Rattle.branch.specs.State.{tree};
 ghost use Rattle.branch.specs.Stepped.{IsOpen, IsUnclosed, IsSame, IsTooDeep, AtLeaf, HasOffer};
 ghost use Rattle.search.specs.OpenLeaves.{open_leaves};
-ghost use Rattle.search.specs.Searched.{IsGrownOf, StaysGrown, IsSettled, HasOffers, IsChecked, IsEnded, IsTurn, IsFound};
+ghost use Rattle.search.specs.Searched.{IsGrownOf, StaysGrown, IsSettled, HasOffers, HasStop, IsWhyOf, IsChecked, IsEnded, IsTurn, IsFound};
 
 use branch::{BranchStop, Closed, Open, StartStop, Tableau, Why};
 use rule_select::Selection;
@@ -65,8 +63,8 @@ fn side_of(store: &Store, at: Redex) -> Result<Side, AllocError>
 
 // Why the offers of a branch can't be made.
 fn why_of(store: &Store, stop: BranchStop) -> Result<Why, AllocError>
-    requires { IfStop (HasRedex store.now) stop }
-    ensures { IfOk result (λ why. IfStop (λ at. cause_of why ≡ Cause.deep (redex_of store.now at)) stop) }
+    requires { HasStop store.now stop }
+    ensures { IfOk result (IsWhyOf store.now stop) }
 {
     match stop {
         BranchStop::Memory => Err(AllocError),
@@ -96,6 +94,7 @@ fn close(tableau: &mut Tableau<Open>) -> Result<(), AllocError>
     ensures fewer { OnOk result (suc (open_leaves (tree tableau.new)) ≡ open_leaves (tree tableau.old)) }
     ensures same { OnOk result (spec.count (tree tableau.new) ≡ spec.count (tree tableau.old)) }
 {
+    tableau.kept();
     tableau.close_leaf()?;
     tableau.kept();
     Ok(())
@@ -151,9 +150,15 @@ fn stop(tableau: &mut Tableau<Open>, steps: u32) -> Result<Option<Why>, AllocErr
     requires unclosed { IsUnclosed tableau.old }
     requires within { spec.count (tree tableau.old) ≤ steps }
     ensures checked { IfOk result (IsChecked steps tableau.new) }
-    ensures same { IsSame tableau.old tableau.new }
+    ensures open { IsOpen tableau.new }
+    ensures unclosed { IsUnclosed tableau.new }
+    ensures grown { StaysGrown tableau.old tableau.new }
+    ensures same { spec.count (tree tableau.new) ≡ spec.count (tree tableau.old) }
 {
-    match count_offers(tableau) {
+    tableau.kept();
+    let counted = count_offers(tableau);
+    tableau.kept();
+    match counted {
         Ok(count) => Ok(stop_at(tableau, count, steps)),
         Err(stop) => Ok(Some(why_of(tableau.store(), stop)?)),
     }
@@ -169,6 +174,7 @@ fn grow(tableau: &mut Tableau<Open>) -> Result<(), AllocError>
     ensures grown { OnOk result (StaysGrown tableau.old tableau.new) }
     ensures more { OnOk result (spec.count (tree tableau.new) ≡ suc (spec.count (tree tableau.old))) }
 {
+    tableau.kept();
     tableau.apply(0)?;
     tableau.kept();
     Ok(())

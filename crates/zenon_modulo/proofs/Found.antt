@@ -99,8 +99,8 @@ module _ (p : Problem) (steps : ℕ) where
       stopped = s.stopped;
       unsaturated = u;
       beyond = λ q w n.
-        u q (enough_steps_saturate p (setting p) (root p) steps (tree t) why s.typed (plain_refuted p q) refl (is_root t s.grown)
-        (grown_tableau t s.grown) w n s.stopped);
+          u q (enough_steps_saturate p (setting p) (root p) steps (tree t) why s.typed (plain_refuted p q) refl (is_root t s.grown)
+          (grown_tableau t s.grown) w n s.stopped);
     }
 
   unknown_report : (t : State) (why : Why) (text : List ℕ) → IsStoppedFor steps p (cause_of why) t
@@ -121,7 +121,7 @@ module _ (p : Problem) (steps : ℕ) where
       → AtLeaf t (λ leaf. v ≡ valuation leaf.branch p) → IsCountermodel steps p v (tree t)
   countermodel t v s q a =
       let f = saturated_tableaux_falsify p (setting p) (root p) steps (tree t) s.typed (plain_refuted p q) refl (is_root t s.grown)
-          (grown_tableau t s.grown) s.stopped in
+      (grown_tableau t s.grown) s.stopped in
       let e : current_leaf (root p) (tree t) ≡ Some a.leaf = ap (λ b. current_leaf b (tree t)) (sym (same_root t s.grown)) ∙ a.is_current in
       let same : a.leaf ≡ f.leaf = leaf_is a.leaf f.leaf (sym e ∙ f.is_current) in
       record {

@@ -4,10 +4,10 @@ mod ClapOptions
 mod Commands
 mod Dashes
 mod FileText
+mod Found
 mod OneReading
 mod Picks
+mod PlainProblems
 mod Printed
 mod SymbolNames
 mod TextAnswered
-mod Found
-mod PlainProblems

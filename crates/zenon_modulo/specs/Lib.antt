@@ -1,4 +1,5 @@
 pub mod Answer
+pub mod Fragments
 pub mod Input
 pub mod Laws
 pub mod Message
@@ -9,4 +10,3 @@ pub mod Text
 pub mod Words
 pub mod WordsRead
 pub mod Writing
-pub mod Fragments

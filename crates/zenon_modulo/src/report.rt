@@ -70,8 +70,11 @@ fn countermodel_of(
     ensures text { IfOk result (λ m. m.text.items ≡ spec_falsified_text (problem_tree problem.now) (map valued_tree m.valuation)) }
 {
     let valuation = valuation_of(alloc, tableau, problem)?;
-    let symbols = problem.problem().symbols.as_slice();
-    let text = falsified_text(alloc, symbols, valuation.as_slice())?;
+    let text = falsified_text(
+        alloc,
+        problem.problem().symbols.as_slice(),
+        valuation.as_slice(),
+    )?;
     Ok(Countermodel { valuation, text })
 }
 

@@ -1,3 +1,5 @@
+mod first_order;
+
 use super::*;
 use std::alloc::Global;
 use std::process::Abort;

@@ -55,7 +55,11 @@ fn cause_text(why: &Why) -> &'static [u8]
 }
 
 /// What is written for a search that stopped.
-pub fn unknown_text(alloc: Global, why: &Why, tableau: &Tableau<Open>) -> Result<Vec<u8>, AllocError>
+pub fn unknown_text(
+    alloc: Global,
+    why: &Why,
+    tableau: &Tableau<Open>,
+) -> Result<Vec<u8>, AllocError>
     ensures { IfOk result (λ text. text.items ≡ spec.unknown_text (cause_of why.now) (tree tableau.now)) }
 {
     let picks = tableau.picks(alloc)?;

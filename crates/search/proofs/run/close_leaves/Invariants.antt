@@ -5,11 +5,11 @@ use Rattle.search.specs.OpenLeaves.{open_leaves}
 use Rattle.search.specs.Searched.{StaysGrown}
 use Rattle.search.proofs.run.close_leaves.Given as goal
 
-abbrev pub invariant-loop-a : goal.invariant-loop-a
-invariant-loop-a l = record {
+abbrev pub invariant-loop-tableau : goal.invariant-loop-tableau
+invariant-loop-tableau l = record {
   grown : StaysGrown l.fn.tableau l.tableau;
   same : count (tree l.tableau) ≡ count (tree l.fn.tableau);
 }
 
-abbrev pub decreases-loop-a : goal.decreases-loop-a
-decreases-loop-a l = open_leaves (tree l.tableau)
+abbrev pub decreases-loop-tableau : goal.decreases-loop-tableau
+decreases-loop-tableau l = open_leaves (tree l.tableau)

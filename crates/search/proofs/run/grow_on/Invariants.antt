@@ -4,11 +4,11 @@ use Rattle.branch.specs.State.{tree}
 use Rattle.search.specs.Searched.{StaysGrown}
 use Rattle.search.proofs.run.grow_on.Given as goal
 
-abbrev pub invariant-loop-a : goal.invariant-loop-a
-invariant-loop-a l = record {
+abbrev pub invariant-loop-why : goal.invariant-loop-why
+invariant-loop-why l = record {
   grown : StaysGrown l.fn.tableau l.tableau;
   within : count (tree l.tableau) ≤ l.steps;
 }
 
-abbrev pub decreases-loop-a : goal.decreases-loop-a
-decreases-loop-a l = l.steps - count (tree l.tableau)
+abbrev pub decreases-loop-why : goal.decreases-loop-why
+decreases-loop-why l = l.steps - count (tree l.tableau)

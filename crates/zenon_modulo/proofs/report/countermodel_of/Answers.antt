@@ -6,8 +6,10 @@ use Rattle.zenon_modulo.proofs.Found.{stopped_open, countermodel}
 use Rattle.zenon_modulo.proofs.SymbolNames.{text_same}
 use Rattle.zenon_modulo.proofs.report.countermodel_of.Goals as goal
 
-pub valuation_of-requires-clause-open : goal.valuation_of-requires-clause-open
-valuation_of-requires-clause-open c = stopped_open (problem_tree c.args.problem.now) c.args.steps c.args.tableau.now Cause.saturated c.requires.stopped
+pub valuation_of-requires : goal.valuation_of-requires
+valuation_of-requires c = record {
+  «open» = stopped_open (problem_tree c.args.problem.now) c.args.steps c.args.tableau.now Cause.saturated c.requires.stopped;
+}
 
 pub returns-clause-valuation : goal.returns-clause-valuation
 returns-clause-valuation c =
