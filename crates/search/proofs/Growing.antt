@@ -1,5 +1,5 @@
 -- What a search keeps, as a Step is put and as a leaf is closed.
-use Rattle.std.proofs.Common.{◌≡◌, ◌≢◌, ℕ, zero, suc, ◌+◌, ◌<◌, ◌≤◌, max, Bool, true, false, refl, ap, sym, subst, ◌∙◌, List, [], ◌∷◌, ◌++◌, Some, None, map, length, All, inl, inr, ◌⊎◌, arith}
+use Rattle.std.proofs.Common.{◌≡◌, ◌≢◌, ℕ, zero, suc, ◌+◌, ◌<◌, ◌≤◌, max, Bool, true, false, refl, ap, sym, subst, ◌∙◌, List, [], ◌∷◌, ◌++◌, Some, None, map, length, All, Result, Ok, Err, OnOk, IfOk, inl, inr, ◌⊎◌, arith}
 use Rattle.std.proofs.lemmas.List.Elements.{All-push}
 use Rattle.std.proofs.lemmas.List.{append-nil}
 use Rattle.zm_logic.specs.Tree.{Form, Problem}
@@ -33,7 +33,9 @@ use Rattle.branch.proofs.Replacing.{step_lawful}
 use Rattle.branch.proofs.Standing.{tree_stays}
 use Rattle.branch.proofs.States.{open_some}
 use Rattle.search.specs.OpenLeaves.{open_leaves}
-use Rattle.search.specs.Searched.{IsGrownOf, StaysGrown, StopsHere, IsSettled, HasOffers, HasStop, IsWhyOf}
+use Rattle.search.specs.Searched.{IsGrownOf, StaysGrown, StopsHere, IsSettled, HasOffers, HasStop, IsWhyOf, IsTurn}
+use Rattle.search.specs.declared.run.Turned.{Turned}
+use Rattle.search.specs.declared.run.Turned.TheVariants as turns
 use Rattle.search.proofs.Fewer.{closed_fewer}
 
 leaf_is : (x y : Leaf) → Some x ≡ Some y → x ≡ y
@@ -237,3 +239,13 @@ deep_here steps t (stops.Deep at) why u h w =
         subst (StopsAt (setting t) steps (count (tree t)) a.leaf) (sym w) a.holds,
       );
     }
+
+-- a turn takes no Step away
+turn_counts : (steps : ℕ) (t u : State) (x : Turned) → IsTurn steps t u x → count (tree t) ≤ count (tree u)
+turn_counts steps t u turns.Grown h = omega (arith, h.0)
+turn_counts steps t u (turns.Ended why) h = omega (arith, h.0)
+
+pub turned_grown : {E : Type 0} (steps : ℕ) (r : Result Turned E) (t u v : State) → StaysGrown t u → OnOk r (StaysGrown u v) → IfOk r (IsTurn steps u v)
+    → OnOk r (StaysGrown t v)
+turned_grown steps (Ok x) t u v g h k = stays_on t u v g h (turn_counts steps u v x k)
+turned_grown steps (Err e) t u v g h k = tt

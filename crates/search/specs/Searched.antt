@@ -71,7 +71,7 @@ IsEnded steps t (Some why) = StopsHere steps t (cause_of why)
 -- one Step more, or the end
 abbrev pub IsTurn : ℕ → State → State → Turned → Type 0
 IsTurn steps t u turns.Grown = (count (tree u) ≡ suc (count (tree t))) × (count (tree u) ≤ steps)
-IsTurn steps t u (turns.Ended why) = IsEnded steps u why
+IsTurn steps t u (turns.Ended why) = (count (tree u) ≡ count (tree t)) × IsEnded steps u why
 
 -- The answer for a problem: a closed tableau, or one that is stopped for its cause.
 abbrev pub IsFound : Problem → ℕ → ℕ → Searched → Type 0

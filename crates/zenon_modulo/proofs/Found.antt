@@ -91,7 +91,7 @@ module _ (p : Problem) (steps : ℕ) where
     pub stopped_open : is_finished (tree t) ≡ false
     stopped_open = stays_open (setting p) (refuted p) steps (tree t) why s.stopped
 
-    pub undecided : (is_quantifier_free p ≡ true → why ≢ Cause.saturated) → IsUndecided steps p why (tree t)
+    undecided : (is_quantifier_free p ≡ true → why ≢ Cause.saturated) → IsUndecided steps p why (tree t)
     undecided u = record {
       built = s.built;
       tableau = grown_tableau t s.grown;

@@ -1,7 +1,7 @@
 -- What is printed, from one place on.
-use Rattle.std.proofs.Common.{map, take, Bool, cond, codes, nat_eq, append_assoc, sym, ◌∙◌, ◌++◌, Option, Some, None, slice_get, ℕ, zero, suc, ◌≡◌, ◌+◌, ◌<◌, ◌≤◌, true, false, ◌&&◌, List, [], ◌∷◌, length, get_or, drop, refl, arith, ap}
+use Rattle.std.proofs.Common.{map, take, Bool, nat_eq, append_assoc, sym, ◌∙◌, ◌++◌, ℕ, zero, suc, ◌≡◌, ◌+◌, ◌<◌, ◌≤◌, true, false, ◌&&◌, List, [], ◌∷◌, length, get_or, drop, refl, arith, ap}
 use Rattle.std.specs.List.{list_all}
-use Rattle.std.proofs.lemmas.List.{drop_more, drop_all, take_more, append-nil, length-take-le}
+use Rattle.std.proofs.lemmas.List.{drop_more, drop_all, take_more, append-nil}
 use Rattle.std.proofs.lemmas.Bool.{ne_eqb}
 use Rattle.tptp_lex.specs.Words.{is_word}
 use Rattle.zm_logic.specs.declared.problem.Symbol.{Symbol}

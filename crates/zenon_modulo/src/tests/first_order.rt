@@ -423,25 +423,17 @@ fn keeps_to_its_steps(rt: HostRuntime) -> Result<(), Fail> {
     bounded(&rt, rt.alloc(), BOUNDED.as_slice())
 }
 
-// Problems on which a search doesn't end by itself, with the cause why it stops and the Steps made.
-const ENDLESS: [(&str, &str, u64); 3] = [
-    // A term that grows by one level a round.
+// Problems whose terms or types grow without end, and the Steps made until a formula would be too deep.
+const GROWING: [(&str, u64); 2] = [
+    // A term that grows by a hundred levels a round.
     (
-        "fof(a0,axiom,p(a)).\nfof(a1,axiom,! [X] : (p(X) => p(f(X)))).\nfof(c,conjecture,q).\n",
-        "branch length",
-        512,
+        "fof(a0,axiom,p(a)).\nfof(a1,axiom,! [X] : (p(X) => p(f(f(f(f(f(f(f(f(f(f(f(f(f(f(f(f(f(f(f(f(f(f(f(f(f(f(f(f(f(f(f(f(f(f(f(f(f(f(f(f(f(f(f(f(f(f(f(f(f(f(f(f(f(f(f(f(f(f(f(f(f(f(f(f(f(f(f(f(f(f(f(f(f(f(f(f(f(f(f(f(f(f(f(f(f(f(f(f(f(f(f(f(f(f(f(f(f(f(f(f(X))))))))))))))))))))))))))))))))))))))))))))))))))))))))))))))))))))))))))))))))))))))))))))))))))))))).\nfof(c,conjecture,q).\n",
+        40,
     ),
-    // A term that grows by twenty levels a round.
+    // A type that grows by a hundred levels a round.
     (
-        "fof(a0,axiom,p(a)).\nfof(a1,axiom,! [X] : (p(X) => p(f(f(f(f(f(f(f(f(f(f(f(f(f(f(f(f(f(f(f(f(X))))))))))))))))))))))).\nfof(c,conjecture,q).\n",
-        "depth",
-        200,
-    ),
-    // A type that grows by twenty levels a round.
-    (
-        "tff(t0,type,s: $tType > $tType).\ntff(t1,type,p: !>[A: $tType]: $o).\ntff(a0,axiom,p($i)).\ntff(a1,axiom,! [A: $tType] : (p(A) => p(s(s(s(s(s(s(s(s(s(s(s(s(s(s(s(s(s(s(s(s(A))))))))))))))))))))))).\ntff(c,conjecture,q).\n",
-        "depth",
-        200,
+        "tff(t0,type,s: $tType > $tType).\ntff(t1,type,p: !>[A: $tType]: $o).\ntff(a0,axiom,p($i)).\ntff(a1,axiom,! [A: $tType] : (p(A) => p(s(s(s(s(s(s(s(s(s(s(s(s(s(s(s(s(s(s(s(s(s(s(s(s(s(s(s(s(s(s(s(s(s(s(s(s(s(s(s(s(s(s(s(s(s(s(s(s(s(s(s(s(s(s(s(s(s(s(s(s(s(s(s(s(s(s(s(s(s(s(s(s(s(s(s(s(s(s(s(s(s(s(s(s(s(s(s(s(s(s(s(s(s(s(s(s(s(s(s(s(A))))))))))))))))))))))))))))))))))))))))))))))))))))))))))))))))))))))))))))))))))))))))))))))))))))))).\ntff(c,conjecture,q).\n",
+        40,
     ),
 ];
 
@@ -456,16 +448,35 @@ fn gives_up(alloc: Global, cause: &str, steps: u64) -> Result<String, AllocError
     Ok(text)
 }
 
-fn stops(rt: &impl Abort, alloc: Global, rows: &[(&str, &str, u64)]) -> Result<(), Fail> {
-    for (text, cause, steps) in rows {
+fn stops(rt: &impl Abort, alloc: Global, rows: &[(&str, u64)]) -> Result<(), Fail> {
+    for (text, steps) in rows {
         let seen = prove(alloc, text)?;
-        let out = gives_up(alloc, cause, *steps)?;
+        let out = gives_up(alloc, "depth", *steps)?;
         expect(rt, &seen, 2, out.as_str(), "");
     }
     Ok(())
 }
 
 #[test]
-fn stops_endless_searches(rt: HostRuntime) -> Result<(), Fail> {
-    stops(&rt, rt.alloc(), ENDLESS.as_slice())
+fn keeps_to_its_depth(rt: HostRuntime) -> Result<(), Fail> {
+    stops(&rt, rt.alloc(), GROWING.as_slice())
+}
+
+// All things have a property, which is said so many times and once more.
+fn repeated(alloc: Global, count: u64) -> Result<String, AllocError> {
+    let mut text = String::from_str(alloc, "fof(a,axiom,! [X] : (p(X)")?;
+    for _ in 0..count {
+        text.push_str(" & p(X)")?;
+    }
+    text.push_str(")).\nfof(c,conjecture,q).\n")?;
+    Ok(text)
+}
+
+#[test]
+fn keeps_to_its_branch_length(rt: HostRuntime) -> Result<(), Fail> {
+    let alloc = rt.alloc();
+    let seen = prove(alloc, repeated(alloc, 513)?.as_str())?;
+    let out = gives_up(alloc, "branch length", 512)?;
+    expect(&rt, &seen, 2, out.as_str(), "");
+    Ok(())
 }
