@@ -1,9 +1,6 @@
 mod branches;
 mod closing;
-mod drinker;
 mod entering;
 mod forms;
 mod formulas;
 mod listing;
-mod paths;
-mod trees;

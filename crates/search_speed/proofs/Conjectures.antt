@@ -1,5 +1,5 @@
 -- A problem that is a conjecture alone.
-use Rattle.std.proofs.Common.{◌≡◌, false, List, [], ◌∷◌, ◌++◌, map, All}
+use Rattle.std.proofs.Common.{◌≡◌, false, List, [], ◌∷◌, ◌++◌, map}
 use Rattle.std.proofs.lemmas.List.Elements.{All-nil, All-cons}
 use Rattle.zm_logic.specs.Tree.{Form, Premise, Problem}
 use Rattle.zm_logic.specs.Truth.{refuted}

@@ -1,4 +1,4 @@
-ghost use Rattle.std.specs.Prelude.{◌≡◌, ◌≤◌, ◌<◌, [], Err, Ok, IfOk};
+ghost use Rattle.std.specs.Prelude.{◌≡◌, ◌≤◌, ◌<◌, true, IfOk};
 ghost use Rattle.zm_logic.specs.View.{form_tree, problem_tree};
 ghost use Rattle.zm_logic.specs.Truth.{refuted};
 ghost use Rattle.branch.specs.EqualityFree.{AreEqualityFree, holds_equality as spec_holds_equality};

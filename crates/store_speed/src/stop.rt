@@ -1,10 +1,10 @@
-use std::alloc::AllocError;
-use term_store::MkFault;
-use unify::MguFault;
-
 ghost use Rattle.std.specs.Prelude.{◌≡◌};
 ghost use Rattle.term_store.specs.declared.fault.MkFault.TheVariants as faults;
 ghost use Rattle.store_speed.specs.declared.stop.Stop.TheVariants.{Memory, Deep};
+
+use std::alloc::AllocError;
+use term_store::MkFault;
+use unify::MguFault;
 
 /// Why nothing was timed.
 #[derive(Clone, Copy, Debug, PartialEq, Eq)]
