@@ -16,7 +16,7 @@ use Rattle.branch.specs.Offered.{Offered}
 use Rattle.branch.specs.Introduced.{Above, IsIntroduced}
 use Rattle.branch.proofs.Lists.{cond-cases}
 use Rattle.branch.proofs.Branches.{closing-source, some_is}
-use Rattle.branch.proofs.Closing.{IsWithin, closed_derives, closed_within}
+use Rattle.branch.proofs.Closings.{IsWithin, closed_derives, closed_within}
 use Rattle.branch.proofs.Made.{AreMade, raws, offer_made}
 use Rattle.branch.proofs.Sequent.{IsBranch}
 use Rattle.branch.proofs.Children.{offered_typed}

@@ -11,7 +11,7 @@ use Rattle.zm_logic.proofs.Sames.{Contains-here, Contains-there, Contains-cases,
 use Rattle.param_store.specs.RawOffers.{number_of}
 use Rattle.branch.specs.Setting.{Setting}
 use Rattle.branch.specs.Sound.{AreGiven}
-use Rattle.branch.specs.BranchOffers.{Entry}
+use Rattle.branch.specs.BranchOffers.{Entry, AreRawOffers}
 use Rattle.branch.specs.Tableau.{Leaf, enter, is_finished, current_leaf}
 use Rattle.branch.specs.Laws as laws
 use Rattle.branch.specs.Introduced.{HasFacts}
@@ -22,7 +22,12 @@ use Rattle.branch.proofs.Everywhere.{tableau_facts, delta_is_fresh}
 use Rattle.branch.proofs.Determined.{one_offers}
 use Rattle.branch.proofs.Picks.{picks_determine}
 use Rattle.branch.proofs.Stopped.{at_current, one_cause}
-use Rattle.branch.proofs.Open.{finished_current, unfinished_current}
+use Rattle.branch.proofs.OpenLeaves.{finished_current, unfinished_current}
+use Rattle.branch.proofs.QuantifierFree.{raw_splits}
+use Rattle.branch.proofs.Splits.{offers_are, no_fault}
+use Rattle.branch.proofs.SplitsThere.{raw_there, offers_there}
+use Rattle.branch.proofs.FreeBranches.{tableau_free}
+use Rattle.branch.proofs.FreeRoots.{root_free}
 use Rattle.branch.proofs.Replacing.{step_lawful, unskipped, replaced_lawful, replaced_picks, replaced_count, replaced_height, replaced_current}
 
 pub raw_offers_are_by_rule : laws.RawOffersAreByRule
@@ -122,3 +127,24 @@ leaves_may_be_replaced s root tree node leaf t e z l high =
 
 pub replaced_leaves_are_current : laws.ReplacedLeavesAreCurrent
 replaced_leaves_are_current s root tree node leaf e z = replaced_current s tree (enter [] root) root 0 node leaf e z
+
+pub quantifier_free_branches_split : laws.QuantifierFreeBranchesSplit
+quantifier_free_branches_split s table branch entries q = (
+  λ h. raw_splits s table branch entries q h,
+  λ e. subst (λ x. AreRawOffers s table branch x) (sym e) (raw_there s table branch q),
+)
+
+pub quantifier_free_offers_are_splits : laws.QuantifierFreeOffersAreSplits
+quantifier_free_offers_are_splits s table branch offers unruled q h = offers_are s unruled table branch offers q h
+
+pub shallow_splits_are_offers : laws.ShallowSplitsAreOffers
+shallow_splits_are_offers s table branch unruled q d = offers_there s unruled table branch q d
+
+pub shallow_splits_have_no_fault : laws.ShallowSplitsHaveNoFault
+shallow_splits_have_no_fault s table branch fault unruled q d h = no_fault s unruled table branch fault q d h
+
+pub tableaux_stay_quantifier_free : laws.TableauxStayQuantifierFree
+tableaux_stay_quantifier_free s root tree unruled q d t = tableau_free s unruled root tree q d t
+
+pub roots_are_quantifier_free : laws.RootsAreQuantifierFree
+roots_are_quantifier_free problem s root typed free unruled is = root_free problem s root typed free unruled is

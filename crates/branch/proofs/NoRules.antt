@@ -32,7 +32,7 @@ no_step (Step.binary_right h) = no_step h
 no_step (Step.quantified n x y h) = no_step h
 no_step (Step.for_all_types n x y h) = no_step h
 
-its_own : {from : Form} {n : ℕ} {f : Form} {x : Made Form} → NormalizesFrom [] from n f x → x ≡ Made.made f
+pub its_own : {from : Form} {n : ℕ} {f : Form} {x : Made Form} → NormalizesFrom [] from n f x → x ≡ Made.made f
 its_own (NormalizesFrom.done h) = refl
 its_own (NormalizesFrom.step {f = f} {g = g} i b r) = absurd (no_step (innermost_step [] i))
 its_own (NormalizesFrom.too_deep {f = f} {g = g} i b) = absurd (no_step (innermost_step [] i))

@@ -13,7 +13,7 @@ use Rattle.branch.specs.Tableau.{Node, Children, given, is_finished, are_finishe
 use Rattle.branch.specs.Introduced.{Above, HasFacts}
 use Rattle.branch.specs.Facts.{EachBranch, EachBelow}
 use Rattle.branch.specs.Stopping.{IsRun}
-use Rattle.branch.proofs.Open.{finished_current, open_picks}
+use Rattle.branch.proofs.OpenLeaves.{finished_current, open_picks}
 use Rattle.branch.proofs.Determined.{one_at}
 use Rattle.branch.proofs.Everywhere.{tableau_facts}
 

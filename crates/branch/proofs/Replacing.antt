@@ -10,7 +10,7 @@ use Rattle.branch.specs.BranchOffers.{Kind}
 use Rattle.branch.specs.Offers.{Child, IsOfferAt}
 use Rattle.branch.specs.Tableau.{Node, Children, given, is_finished, are_finished, is_skipped, are_open, is_idle, uses, skips, enter, enter_child, after, IsLawful, AreLawful, Leaf, current, current_of, picks, picks_all, count, count_all, height, height_all}
 use Rattle.branch.specs.Replaced.{skipping, opening, replaced, replaced_in}
-use Rattle.branch.proofs.Open.{finished_current, open_picks, unfinished_current}
+use Rattle.branch.proofs.OpenLeaves.{finished_current, open_picks, unfinished_current}
 
 -- what a Step's children were given stays
 skipping_given : (ns : Children) → given (skipping ns) ≡ given ns

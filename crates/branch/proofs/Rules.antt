@@ -24,7 +24,7 @@ use Rattle.branch.proofs.Opened.{shape, own_derives}
 use Rattle.branch.proofs.Sequent.{IsBranch}
 use Rattle.branch.proofs.Children.{AllOf, declared_once, on_branch, term_instance, type_instance}
 use Rattle.branch.proofs.Grows.{own_typed, fresh_number, reached_one}
-use Rattle.branch.proofs.Closing.{IsWithin}
+use Rattle.branch.proofs.Closings.{IsWithin}
 
 abbrev pub Proves : Setting → List Form → Type 0
 Proves s gamma = Derives s.symbols s.rules gamma

@@ -8,7 +8,7 @@ use Rattle.branch.specs.Tableau.{fresh, without, is_apart}
 use Rattle.zm_logic.proofs.Sames.{Contains-here, Contains-there, Contains-cases, Contains-none, both_true, has-contains, contains-has}
 use Rattle.branch.proofs.Lists.{filter-kept, filter-has}
 use Rattle.branch.proofs.Branches.{extend-cases}
-use Rattle.branch.proofs.Closing.{IsWithin}
+use Rattle.branch.proofs.Closings.{IsWithin}
 
 -- what a child uses beyond its new formulas
 pub kept_uses : (b f used : List Form) (x : Form) → Contains used x → Contains f x ⊎ Contains (without (fresh b f) used) x

@@ -1,24 +1,26 @@
 -- What the definitions promise of one another. Each statement is the contract of a function of the module laws.
-use Rattle.std.specs.Prelude.{ℕ, ◌+◌, ◌≤◌, ◌≡◌, ◌↔◌, true, false, List, [], ◌++◌, Some, None}
+use Rattle.std.specs.Prelude.{ℕ, ◌+◌, ◌≤◌, ◌≡◌, ◌↔◌, true, false, List, [], ◌++◌, Some, None, All, map}
 use Rattle.std.specs.List.{Contains}
 use Rattle.zm_logic.specs.Tree.{Form, Problem}
 use Rattle.zm_logic.specs.Parameter.{IsFreshForAll}
 use Rattle.zm_logic.specs.Typing.{IsSignature}
 use Rattle.zm_logic.specs.Problem.{IsTypedProblem}
 use Rattle.zm_logic.specs.Calculus.{Derives}
-use Rattle.zm_logic.specs.Truth.{refuted}
+use Rattle.zm_logic.specs.Truth.{IsQuantifierFree, refuted}
 use Rattle.param_store.specs.RawOffers.{Act, number_of}
 use Rattle.branch.specs.Branch.{closing}
 use Rattle.branch.specs.Setting.{Setting}
+use Rattle.branch.specs.Normal.{Fault}
 use Rattle.branch.specs.Sound.{IsSound, AreGiven}
 use Rattle.branch.specs.BranchOffers.{Kind, Placed, Entry, AreRawOffers}
 use Rattle.branch.specs.Offered.{Offered}
-use Rattle.branch.specs.Offers.{Child, Offer, AreOffers, IsOfferAt}
+use Rattle.branch.specs.Offers.{Child, Offer, AreOffers, HasFault, IsOfferAt}
 use Rattle.branch.specs.Tableau.{Node, Children, Leaf, IsLawful, IsTableau, enter, current, current_leaf, is_finished, is_skipped, count, picks, height}
 use Rattle.branch.specs.Stopping.{IsRoot, Cause, Stopped, IsRun}
 use Rattle.branch.specs.Introduced.{HasFacts, Above}
 use Rattle.branch.specs.Facts.{EachBranch}
 use Rattle.branch.specs.Replaced.{opening, replaced}
+use Rattle.branch.specs.QuantifierFree.{AreQuantifierFree, AreShallow, splits, useful_splits}
 
 -- each raw offer of a branch is one by the rules
 abbrev pub RawOffersAreByRule : Type 0
@@ -131,3 +133,39 @@ abbrev mutual
 -- where tableaux aren't pruned, no node is Skipped
 abbrev pub UnprunedTableauxHaveNoSkipped : Type 0
 UnprunedTableauxHaveNoSkipped = (s : Setting) (root : List Form) (tree : Node) → s.prunes ≡ false → IsTableau s root tree → HasNoSkipped tree
+
+-- a branch without quantifiers, equality and parameters has its alpha and beta formulas as raw offers, and no others
+abbrev pub QuantifierFreeBranchesSplit : Type 0
+QuantifierFreeBranchesSplit =
+    (s : Setting) (table branch : List Form) (entries : List Entry) → AreQuantifierFree branch
+    → AreRawOffers s table branch entries ↔ (entries ≡ map Entry.offer (splits branch))
+
+-- so without rules the useful ones are its offers
+abbrev pub QuantifierFreeOffersAreSplits : Type 0
+QuantifierFreeOffersAreSplits =
+    (s : Setting) (table branch : List Form) (offers : List Offer) → s.rules ≡ [] → AreQuantifierFree branch
+    → AreOffers s table branch offers → offers ≡ useful_splits branch
+
+-- they are its offers where no formula is deeper than 2,000
+abbrev pub ShallowSplitsAreOffers : Type 0
+ShallowSplitsAreOffers =
+    (s : Setting) (table branch : List Form) → s.rules ≡ [] → AreQuantifierFree branch → AreShallow branch
+    → AreOffers s table branch (useful_splits branch)
+
+-- and each raw offer can be made then
+abbrev pub ShallowSplitsHaveNoFault : Type 0
+ShallowSplitsHaveNoFault =
+    (s : Setting) (table branch : List Form) (fault : Fault) → s.rules ≡ [] → AreQuantifierFree branch → AreShallow branch
+    → HasFault s table branch fault → ⊥
+
+-- without rules each branch of a tableau is such a one, if the root's is
+abbrev pub TableauxStayQuantifierFree : Type 0
+TableauxStayQuantifierFree =
+    (s : Setting) (root : List Form) (tree : Node) → s.rules ≡ [] → AreQuantifierFree root → AreShallow root → IsTableau s root tree
+    → EachBranch (λ table above branch. AreQuantifierFree branch × AreShallow branch) (enter [] root) [] root tree
+
+-- and the root's is one for a typed problem without quantifiers and equality
+abbrev pub RootsAreQuantifierFree : Type 0
+RootsAreQuantifierFree =
+    (problem : Problem) (s : Setting) (root : List Form) → IsTypedProblem problem → All IsQuantifierFree (refuted problem)
+    → s.rules ≡ [] → IsRoot s (refuted problem) root → AreQuantifierFree root × AreShallow root

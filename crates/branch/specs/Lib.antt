@@ -1,5 +1,6 @@
 pub mod Setting
 pub mod Branch
+pub mod Denied
 pub mod BranchOffers
 pub mod Innermost
 pub mod Normal
@@ -12,5 +13,19 @@ pub mod Stopping
 pub mod Introduced
 pub mod Facts
 pub mod Replaced
+pub mod QuantifierFree
 pub mod Laws
 pub mod Worked
+pub mod Ids
+pub mod Path
+pub mod EqualityFree
+pub mod Left
+pub mod Listed
+pub mod Sizes
+pub mod Listing
+pub mod State
+pub mod Stepped
+pub mod Roots
+pub mod Causes
+pub mod Stepping
+pub mod Answered

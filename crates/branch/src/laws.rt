@@ -6,6 +6,9 @@ ghost use Rattle.branch.specs.Laws.{FactsHoldOnEachBranch, DeltaNumbersAreFresh,
 ghost use Rattle.branch.specs.Laws.{ClosedTableauxProveProblems, OffersAreDetermined, PicksDetermineTheTree};
 ghost use Rattle.branch.specs.Laws.{CausesAreDetermined, OpenTableauxHaveACurrentLeaf, StepsAreLawful};
 ghost use Rattle.branch.specs.Laws.{LeavesMayBeReplaced, ReplacedLeavesAreCurrent, UnprunedTableauxHaveNoSkipped};
+ghost use Rattle.branch.specs.Laws.{QuantifierFreeBranchesSplit, QuantifierFreeOffersAreSplits};
+ghost use Rattle.branch.specs.Laws.{ShallowSplitsAreOffers, ShallowSplitsHaveNoFault};
+ghost use Rattle.branch.specs.Laws.{TableauxStayQuantifierFree, RootsAreQuantifierFree};
 ghost use Rattle.branch.specs.Worked.{InstanceOverTerms, InstanceOverTypes, EqualArguments, SkippedSibling};
 ghost use Rattle.branch.specs.Worked.{NormalInOneStep, SpentAtTheLimit};
 
@@ -96,6 +99,37 @@ pub fn replaced_leaves_are_current()
 #[tactic(auto, using(crate::proofs::Unpruned::unpruned))]
 pub fn unpruned_tableaux_have_no_skipped()
     ensures { UnprunedTableauxHaveNoSkipped }
+{}
+
+/// A branch without quantifiers, equality and parameters has its alpha and beta formulas as raw offers, and no others.
+pub fn quantifier_free_branches_split()
+    ensures { QuantifierFreeBranchesSplit }
+{}
+
+/// Without rules the offers of such a branch are its useful alpha and beta formulas.
+pub fn quantifier_free_offers_are_splits()
+    ensures { QuantifierFreeOffersAreSplits }
+{}
+
+/// It has these offers where none of its formulas is deeper than 2,000.
+pub fn shallow_splits_are_offers()
+    ensures { ShallowSplitsAreOffers }
+{}
+
+/// Each of its raw offers can be made then, without rules.
+pub fn shallow_splits_have_no_fault()
+    ensures { ShallowSplitsHaveNoFault }
+{}
+
+/// Without rules each branch of a tableau is without quantifiers, equality and parameters, and none of its formulas is
+/// deeper than 2,000, if that is so of the root's.
+pub fn tableaux_stay_quantifier_free()
+    ensures { TableauxStayQuantifierFree }
+{}
+
+/// It is so of the root's for a typed problem without quantifiers and equality.
+pub fn roots_are_quantifier_free()
+    ensures { RootsAreQuantifierFree }
 {}
 
 /// `? [X] : p(X)` and `! [X] : ~p(X)` are refuted by `p(e0)`, `~p(m1)` and the instance `~p(e0)`.

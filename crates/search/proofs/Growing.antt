@@ -1,192 +1,251 @@
--- How a tableau grows, child by child.
-use Rattle.std.proofs.Common.{◌≡◌, ℕ, ◌+◌, ◌<◌, max, refl, ap, sym, subst, ◌∙◌, List, [], ◌∷◌, ◌++◌, arith, Bool, true, false, ◌&&◌, Option, None, Some, All, append_assoc, append-nil, map, take, length, get_or}
-use Rattle.std.specs.Option.{option_or}
-use Rattle.std.proofs.lemmas.List.Elements.{All-append, All-cons}
-use Rattle.zm_logic.specs.Tree.{Form}
-use Rattle.zm_logic.proofs.Sames.{both_true, and_true}
-use Rattle.search.specs.Branch.{extend, closing}
-use Rattle.search.specs.RawOffers.{Kind, Act}
-use Rattle.search.specs.Offers.{make_child, make_children}
-use Rattle.search.specs.Tableau.{Node, Children, Leaf, IsOfferAt, IsLawful, AreLawful, given, is_skipped, count, count_all, picks, picks_all, height, height_all, is_finished, are_finished, is_open, are_open, current, current_of}
-use Rattle.search.specs.Stopping.{Cause}
-use Rattle.search.specs.View.{ChildTree, children_of, bringing, children_tree, child_tree, node_tree, forms_trees, cause, step_of_node, step_of_child}
-use Rattle.search.specs.declared.node.Node.{Node as NodeCode}
-use Rattle.search.specs.declared.node.Child.{Child}
-use Rattle.search.specs.declared.node.Node.TheFolds.{fold-roll-Child}
-use Rattle.search.specs.declared.node.Why.{Why}
-use Rattle.zm_logic.specs.declared.tree.Form.{Form as Code}
-use Rattle.zm_logic.specs.View.{form_tree}
-use Rattle.std.proofs.lemmas.List.{take_more, map-append}
-use Rattle.search.specs.Grown.{IsGrown, AreGrown, IsNext, Ends, Halts}
+-- What a search keeps, as a Step is put and as a leaf is closed.
+use Rattle.std.proofs.Common.{◌≡◌, ◌≢◌, ℕ, zero, suc, ◌+◌, ◌<◌, ◌≤◌, max, Bool, true, false, refl, ap, sym, subst, ◌∙◌, List, [], ◌∷◌, ◌++◌, Some, None, map, length, All, Result, Ok, Err, OnOk, IfOk, inl, inr, ◌⊎◌, arith}
+use Rattle.std.proofs.lemmas.List.Elements.{All-push}
+use Rattle.std.proofs.lemmas.List.{append-nil}
+use Rattle.zm_logic.specs.Tree.{Form, Problem}
+use Rattle.zm_logic.specs.View.{symbol_tree}
+use Rattle.zm_logic.specs.Truth.{refuted}
+use Rattle.param_store.specs.View.{forms_of, HasForms}
+use Rattle.param_store.specs.RawOffers.{Act}
+use Rattle.param_store.proofs.Stay.{forms_stay}
+use Rattle.branch.specs.Branch.{closing, extend}
+use Rattle.branch.specs.BranchOffers.{Kind}
+use Rattle.branch.specs.Setting.{Setting}
+use Rattle.branch.specs.Normal.{Made, MakesAll, Normalizes, NormalizesFrom}
+use Rattle.branch.specs.Offers.{Child, Offer}
+use Rattle.branch.specs.Ids.{node_ids, tree_of}
+use Rattle.branch.specs.Tableau as tableau
+use Rattle.branch.specs.Tableau.{Node, Leaf, count, count_all, picks, picks_all, height, height_all, is_finished, current_leaf}
+use Rattle.branch.specs.Replaced.{opening, replaced}
+use Rattle.branch.specs.Laws.{IsGrown}
+use Rattle.branch.specs.Stopping.{Cause, IsRoot, StopsAt, StopsInside, Stopped}
+use Rattle.branch.specs.State.{State, IsBegun, IsKept, setting, given_ids, normal_ids, given_forms, root, tree}
+use Rattle.branch.specs.Stepped.{IsOf, IsSame, IsOpen, IsUnclosed, AtLeaf, IsApplied, IsClosedAt, IsStarted, AreSeen, AreOffersSeen, IsTooDeep}
+use Rattle.branch.specs.Listed.{IfStop}
+use Rattle.branch.specs.Causes.{cause_of}
+use Rattle.branch.specs.declared.why.Why.{Why}
+use Rattle.branch.specs.declared.stop.BranchStop.{BranchStop}
+use Rattle.branch.specs.declared.stop.BranchStop.TheVariants as stops
+use Rattle.choosers.specs.declared.offer.Offer as code
+use Rattle.branch.proofs.Lawful.{leaves_may_be_replaced, open_tableaux_have_a_current_leaf}
+use Rattle.branch.proofs.NoRules.{itself}
+use Rattle.branch.proofs.Replacing.{step_lawful}
+use Rattle.branch.proofs.Standing.{tree_stays}
+use Rattle.branch.proofs.States.{open_some}
+use Rattle.search.specs.OpenLeaves.{open_leaves}
+use Rattle.search.specs.Searched.{IsGrownOf, StaysGrown, StopsHere, IsSettled, HasOffers, HasStop, IsWhyOf, IsTurn}
+use Rattle.search.specs.declared.run.Turned.{Turned}
+use Rattle.search.specs.declared.run.Turned.TheVariants as turns
+use Rattle.search.proofs.Fewer.{closed_fewer}
 
-abbrev pub push : List ChildTree → List Form → Node → Children
-push cs f n = children_of (cs ++ bringing f n ∷ [])
+leaf_is : (x y : Leaf) → Some x ≡ Some y → x ≡ y
+leaf_is x y e = cc
 
-pub count_push : (cs : List ChildTree) (f : List Form) (n : Node) → count_all (push cs f n) ≡ count_all (children_of cs) + count n
-count_push [] f n = omega arith
-count_push (c ∷ cs) f n = omega (arith, count_push cs f n)
+-- one leaf is current
+pub at_leaf : (t : State) (claim : Leaf → Type 0) (leaf : Leaf) → AtLeaf t claim → current_leaf (root t) (tree t) ≡ Some leaf → claim leaf
+at_leaf t claim leaf a e = subst claim (leaf_is a.leaf leaf (sym a.is_current ∙ e)) a.holds
 
-pub height_push : (cs : List ChildTree) (f : List Form) (n : Node) → height_all (push cs f n) ≡ max (height_all (children_of cs)) (height n)
-height_push [] f n = omega arith
-height_push (c ∷ cs) f n = let h = height_push cs f n in omega arith
+-- where a leaf is current, some leaf is Open, and there is room for the Steps above
+pub is_open : (t : State) (leaf : Leaf) → current_leaf (root t) (tree t) ≡ Some leaf → is_finished (tree t) ≡ false
+is_open t leaf e = (open_tableaux_have_a_current_leaf (root t) (tree t)).1 (leaf, e)
 
-pub picks_push : (cs : List ChildTree) (f : List Form) (n : Node) → picks_all (push cs f n) ≡ picks_all (children_of cs) ++ picks n
-picks_push [] f n = append-nil (picks n)
-picks_push (c ∷ cs) f n = ap (λ ks. picks c.node ++ ks) (picks_push cs f n) ∙ sym (append_assoc (picks c.node) (picks_all (children_of cs)) (picks n))
+pub leaf_short : (t : State) (leaf : Leaf) → IsKept t → current_leaf (root t) (tree t) ≡ Some leaf → leaf.above ≤ 512
+leaf_short t leaf k e =
+    let c = open_some t k (is_open t leaf e) in
+    let i = leaf_is _ leaf (sym c.2.leaf ∙ e) in
+    subst (λ x. x.above ≤ 512) i c.2.short
 
-pub given_push : (cs : List ChildTree) (f : List Form) (n : Node) → given (push cs f n) ≡ given (children_of cs) ++ make_child f ∷ []
-given_push [] f n = refl
-given_push (c ∷ cs) f n = ap (λ rs. record { raw = c.raw; normal = c.normal } ∷ rs) (given_push cs f n)
+-- what a tableau was begun with stays
+module _ (t u : State) (b : IsBegun t) (of : IsOf t u) where
+  pub setting_stays : setting u ≡ setting t
+  setting_stays = let s = of.symbols in let r = of.rewrites in cc
 
-pub and_assoc : (a b c : Bool) → (a && (b && c)) ≡ ((a && b) && c)
-and_assoc true b c = refl
-and_assoc false b c = refl
+  pub given_stays : given_forms u ≡ given_forms t
+  given_stays =
+      ap (λ rs. forms_of u.store (map (λ r. r.given) rs)) of.roots ∙ forms_stay t.store u.store of.store (given_ids t) b.has_given
 
-pub and_right : (a : Bool) → (a && true) ≡ a
-and_right true = refl
-and_right false = refl
+  pub root_stays : root u ≡ root t
+  root_stays =
+      ap (λ rs. extend [] (forms_of u.store (map (λ r. r.normal) rs))) of.roots
+      ∙ ap (extend []) (forms_stay t.store u.store of.store (normal_ids t) (subst (HasForms t.store) (sym b.normal) b.has_given))
 
-pub finished_push : (cs : List ChildTree) (f : List Form) (n : Node) → are_finished (push cs f n) ≡ (are_finished (children_of cs) && is_finished n)
-finished_push [] f n = and_right (is_finished n)
-finished_push (c ∷ cs) f n = ap (λ b. is_finished c.node && b) (finished_push cs f n) ∙ and_assoc (is_finished c.node) (are_finished (children_of cs)) (is_finished n)
-
-pub open_push : (cs : List ChildTree) (f : List Form) (n : Node) → are_open (push cs f n) ≡ (are_open (children_of cs) && is_open n)
-open_push [] f n = and_right (is_open n)
-open_push (c ∷ cs) f n = ap (λ b. is_open c.node && b) (open_push cs f n) ∙ and_assoc (is_open c.node) (are_open (children_of cs)) (is_open n)
-
-pub or_assoc : {A : Type 0} (a b c : Option A) → option_or a (option_or b c) ≡ option_or (option_or a b) c
-or_assoc None b c = refl
-or_assoc (Some x) b c = refl
-
-pub or_right : {A : Type 0} (a : Option A) → option_or a None ≡ a
-or_right None = refl
-or_right (Some x) = refl
-
-pub current_push : (b : List Form) (d : ℕ) (cs : List ChildTree) (f : List Form) (n : Node) → current_of b d (push cs f n) ≡ option_or (current_of b d (children_of cs)) (current (extend b f) d n)
-current_push b d [] f n = or_right (current (extend b f) d n)
-current_push b d (c ∷ cs) f n =
-    ap (λ o. option_or (current (extend b c.normal) d c.node) o) (current_push b d cs f n)
-    ∙ or_assoc (current (extend b c.normal) d c.node) (current_of b d (children_of cs)) (current (extend b f) d n)
-
-mutual
-  pub finished_none : (n : Node) (b : List Form) (d : ℕ) → is_finished n ≡ true → current b d n ≡ None
-  finished_none (Node.step k t a ns) b d e = finished_none_of ns b (d + 1) e
-  finished_none (Node.closed c) b d e = refl
-  finished_none Node.opened b d e = cc
-  finished_none Node.skipped b d e = refl
-
-  pub finished_none_of : (ns : Children) (b : List Form) (d : ℕ) → are_finished ns ≡ true → current_of b d ns ≡ None
-  finished_none_of Children.none b d e = refl
-  finished_none_of (Children.more r f n ns) b d e =
-      let p = both_true (is_finished n) (are_finished ns) e in
-      rw (finished_none n (extend b f) d p.0) (finished_none_of ns b d p.1)
-
-pub and_false : (a b : Bool) → a ≡ false → (a && b) ≡ false
-and_false true b e = cc
-and_false false b e = refl
-
-pub lawful_push : (b : List Form) (cs : List ChildTree) (f : List Form) (n : Node) → is_skipped n ≡ false → AreLawful b (children_of cs) → IsLawful (extend b f) n → (are_finished (children_of cs) ≡ false → is_open n ≡ true) → AreLawful b (push cs f n)
-lawful_push b [] f n i l h o = (i, h, tt, λ e. refl)
-lawful_push b (c ∷ cs) f n i l h o = (
-  l.0,
-  l.1,
-  lawful_push b cs f n i l.2 h (λ e. o (right_false (is_finished c.node) (are_finished (children_of cs)) e)),
-  λ e. open_push cs f n ∙ and_true (are_open (children_of cs)) (is_open n) (l.3 e) (o (and_false (is_finished c.node) (are_finished (children_of cs)) e)),
-)
-  where
-    right_false : (x y : Bool) → y ≡ false → (x && y) ≡ false
-    right_false true y e = e
-    right_false false y e = refl
-
--- once the search has stopped, the next child is an Open leaf
-pub halted_grown : (b : List Form) (d s m : ℕ) (cs : List ChildTree) (f : List Form) (u : Cause)
-    → AreGrown b d s m (children_of cs) (Some u) → AreGrown b d s m (push cs f Node.opened) (Some u)
-halted_grown b d s m cs f u g = record {
-  lawful = lawful_push b cs f Node.opened refl g.lawful tt (λ e. refl);
-  high = let p = height_push cs f Node.opened in let q = g.high in omega arith;
-  counted = let p = count_push cs f Node.opened in let q = g.counted in omega arith;
-  picked = let P : List ℕ → Type 0 = λ ks. All (λ k. k ≡ 0) ks in subst P (sym (picks_push cs f Node.opened ∙ append-nil (picks_all (children_of cs)))) g.picked;
-  ends = (
-    finished_push cs f Node.opened ∙ rw g.ends.0 refl,
-    let P : Option Leaf → Type 0 = λ o. Halts o m u in
-        subst P (sym (current_push b d cs f Node.opened ∙ (ap (λ o. option_or o (current (extend b f) d Node.opened)) g.ends.1.is_current ∙ sym g.ends.1.is_current))) g.ends.1,
-  );
+-- so does what it was grown of, where its picks are still zeros
+pub grows : (t u : State) → IsBegun t → IsKept u → IsOf t u → (All (λ k. k ≡ 0) (picks (tree t)) → All (λ k. k ≡ 0) (picks (tree u))) → StaysGrown t u
+grows t u b k of zeros p steps rewrites within g = record {
+  kept = k;
+  symbols = ap (λ s. map symbol_tree s) of.symbols ∙ g.symbols;
+  limit = of.rewrites ∙ g.limit;
+  given = given_stays t u b of ∙ g.given;
+  within = within;
+  picked = zeros g.picked;
 }
 
--- the children with one more
-pub more_grown : (b : List Form) (d s m a : ℕ) (cs : List ChildTree) (f : List Form) (n : Node) (w v : Option Cause)
-    → AreGrown b d s m (children_of cs) w → IsNext (extend b f) d m a w n v → AreGrown b d s a (push cs f n) v
-more_grown b d s m a cs f n None None g h = record {
-  lawful = lawful_push b cs f n h.entered g.lawful h.lawful (λ e. let q = g.ends in cc);
-  high = let p = height_push cs f n in let q = g.high in let r = h.high in omega arith;
-  counted = let p = count_push cs f n in let q = g.counted in let r = h.counted in omega arith;
-  picked = let P : List ℕ → Type 0 = λ ks. All (λ k. k ≡ 0) ks in subst P (sym (picks_push cs f n)) (All-append (λ k. k ≡ 0) (picks_all (children_of cs)) (picks n) g.picked h.picked);
-  ends = finished_push cs f n ∙ and_true (are_finished (children_of cs)) (is_finished n) g.ends h.ends;
+-- nothing but what is noted of the offers changes
+module _ (t u : State) (k : IsKept t) (l : IsKept u) (same : IsSame t u) where
+  pub same_tree : tree u ≡ tree t
+  same_tree = ap (λ n. tree_of u.store (node_ids n)) same.node ∙ tree_stays t.store u.store same.of.store (node_ids t.node) k.tree.has_node
+
+  pub same_grown : StaysGrown t u
+  same_grown = grows t u k.begun l same.of (λ h. subst (λ n. All (λ k. k ≡ 0) (picks n)) (sym same_tree) h)
+
+  pub same_leaf : current_leaf (root u) (tree u) ≡ current_leaf (root t) (tree t)
+  same_leaf = ap (λ r. current_leaf r (tree u)) (root_stays t u k.begun same.of) ∙ ap (current_leaf (root t)) same_tree
+
+  pub same_at : (claim : Leaf → Type 0) → AtLeaf t claim → AtLeaf u claim
+  same_at claim a = record { leaf = a.leaf; is_current = same_leaf ∙ a.is_current; holds = a.holds }
+
+  pub same_open : IsOpen t → IsOpen u
+  same_open o = ap is_finished same_tree ∙ o
+
+-- a leaf is closed
+module _ (t u : State) (k : IsKept t) (l : IsKept u) (c : IsClosedAt t u) where
+  grown : IsGrown (setting t) (root t) (tree t) (Node.closed c.pair) (replaced false (root t) (Node.closed c.pair) (tree t))
+  grown =
+      let h = leaf_short t c.leaf k c.is_current in
+      leaves_may_be_replaced (setting t) (root t) (tree t) (Node.closed c.pair) c.leaf k.tree.tableau c.is_current refl c.closes (omega arith)
+
+  pub closed_count : count (tree u) ≡ count (tree t)
+  closed_count = ap count c.grown ∙ grown.counted ∙ plus_none (count (tree t))
+    where
+      plus_none : (n : ℕ) → n + 0 ≡ n
+      plus_none n = omega arith
+
+  closed_picks : picks (tree u) ≡ picks (tree t)
+  closed_picks = ap picks c.grown ∙ grown.picked ∙ append-nil (picks (tree t))
+
+  pub closed_grown : StaysGrown t u
+  closed_grown = grows t u k.begun l c.of (λ h. subst (All (λ k. k ≡ 0)) (sym closed_picks) h)
+
+  pub closed_leaves : suc (open_leaves (tree u)) ≡ open_leaves (tree t)
+  closed_leaves = ap (λ n. suc (open_leaves n)) c.grown ∙ closed_fewer (tree t) (root t) c.pair (is_open t c.leaf c.is_current)
+
+-- Open leaves have no Steps
+opening_count : (cs : List Child) → count_all (opening cs) ≡ 0
+opening_count [] = refl
+opening_count (c ∷ cs) = let h = opening_count cs in omega arith
+
+opening_picks : (cs : List Child) → picks_all (opening cs) ≡ []
+opening_picks [] = refl
+opening_picks (c ∷ cs) = opening_picks cs
+
+opening_height : (cs : List Child) → height_all (opening cs) ≡ 0
+opening_height [] = refl
+opening_height (c ∷ cs) = ap (λ n. max 0 n) (opening_height cs)
+
+-- a Step is put that takes the first offer
+module _ (t u : State) (k : IsKept t) (l : IsKept u) (unclosed : IsUnclosed t) (short : AtLeaf t (λ leaf. leaf.above < 512)) (a : IsApplied t 0 u) where
+  abbrev step : Node
+  step = Node.step 0 a.offer.kind a.offer.act (opening a.offer.children)
+
+  stepped : IsGrown (setting t) (root t) (tree t) step (replaced false (root t) step (tree t))
+  stepped =
+      let unclosed_leaf = at_leaf t (λ leaf. closing leaf.branch ≡ None) a.leaf unclosed a.is_current in
+      let room = at_leaf t (λ leaf. leaf.above < 512) a.leaf short a.is_current in
+      let high = opening_height a.offer.children in
+      leaves_may_be_replaced (setting t) (root t) (tree t) step a.leaf k.tree.tableau a.is_current refl
+      (step_lawful (setting t) a.leaf.table a.leaf.branch 0 a.offer.kind a.offer.act a.offer.children unclosed_leaf
+      (record { listed = a.offers; offers = a.are_offers; offer = a.offer; at = a.taken; same_kind = refl; same_act = refl; same_children = refl }))
+      (omega arith)
+
+  pub applied_count : count (tree u) ≡ suc (count (tree t))
+  applied_count = ap count a.grown ∙ stepped.counted ∙ ap (λ n. count (tree t) + (1 + n)) (opening_count a.offer.children) ∙ plus_one (count (tree t))
+    where
+      plus_one : (n : ℕ) → n + (1 + 0) ≡ suc n
+      plus_one n = omega arith
+
+  applied_picks : picks (tree u) ≡ picks (tree t) ++ 0 ∷ []
+  applied_picks = ap picks a.grown ∙ stepped.picked ∙ ap (λ ks. picks (tree t) ++ 0 ∷ ks) (opening_picks a.offer.children)
+
+  pub applied_grown : StaysGrown t u
+  applied_grown = grows t u k.begun l a.of (λ h. subst (All (λ k. k ≡ 0)) (sym applied_picks) (All-push (λ k. k ≡ 0) (picks (tree t)) 0 h refl))
+
+-- what begins a search
+pub started_grown : (p : Problem) (steps rewrites : ℕ) (t : State) → IsKept t → IsStarted p rewrites t → IsGrownOf p steps rewrites t
+started_grown p steps rewrites t k s = record {
+  kept = k;
+  symbols = s.symbols;
+  limit = s.limit;
+  given = s.given;
+  within = subst (λ n. count n ≤ steps) (sym s.one) (omega arith);
+  picked = subst (λ n. All (λ k. k ≡ 0) (picks n)) (sym s.one) (λ i d h. absurd (omega (arith, h)));
 }
-more_grown b d s m a cs f n None (Some v) g h = record {
-  lawful = lawful_push b cs f n h.entered g.lawful h.lawful (λ e. let q = g.ends in cc);
-  high = let p = height_push cs f n in let q = g.high in let r = h.high in omega arith;
-  counted = let p = count_push cs f n in let q = g.counted in let r = h.counted in omega arith;
-  picked = let P : List ℕ → Type 0 = λ ks. All (λ k. k ≡ 0) ks in subst P (sym (picks_push cs f n)) (All-append (λ k. k ≡ 0) (picks_all (children_of cs)) (picks n) g.picked h.picked);
-  ends = (
-    finished_push cs f n ∙ rw (g.ends, h.ends.0) refl,
-    let P : Option Leaf → Type 0 = λ o. Halts o a v in
-        subst P (sym (current_push b d cs f n ∙ rw (finished_none_of (children_of cs) b d g.ends) refl)) h.ends.1,
-  );
-}
-more_grown b d s m a cs f n (Some u) v g h = rw (h.0, h.1, h.2) (halted_grown b d s m cs f u g)
 
--- the Step over its children
-pub step_grown : (b : List Form) (d s a : ℕ) (t : Kind) (act : Act) (ns : Children) (w : Option Cause)
-    → closing b ≡ None → IsOfferAt b 0 t act (given ns) → AreGrown b (d + 1) s a ns w
-    → IsGrown b d (s + 1) a (Node.step 0 t act ns) w
-step_grown b d s a t act ns w u o g = record {
-  lawful = (u, o, g.lawful);
-  entered = refl;
-  high = let p = g.high in omega arith;
-  counted = let p = g.counted in omega arith;
-  picked = All-cons (λ k. k ≡ 0) 0 (picks_all ns) refl g.picked;
-  ends = go w g.ends;
-}
-  where
-    go : (v : Option Cause) → Ends (are_finished ns) (current_of b (d + 1) ns) a v → Ends (are_finished ns) (current_of b (d + 1) ns) a v
-    go v e = e
+-- each formula is its own normal form
+all_normal : (s : Setting) → s.rules ≡ [] → (fs : List Form) → MakesAll (Normalizes s) fs (Made.made fs)
+all_normal s e [] = MakesAll.none
+all_normal s e (f ∷ fs) =
+    MakesAll.more (subst (λ r. NormalizesFrom r f s.rewrites f (Made.made f)) (sym e) (itself f s.rewrites f)) (all_normal s e fs)
 
-pub trees_step : (all all' : List Child) (x : Child) (f : List Code) (n : NodeCode)
-    → child_tree x ≡ bringing (map form_tree f) (node_tree n) → all' ≡ all ++ x ∷ []
-    → map child_tree all' ≡ map child_tree all ++ bringing (map form_tree f) (node_tree n) ∷ []
-trees_step all all' x f n e p = ap (map child_tree) p ∙ (map-append child_tree all (x ∷ []) ∙ ap (λ c. map child_tree all ++ c ∷ []) e)
+pub grown_root : (p : Problem) (steps rewrites : ℕ) (t : State) → IsGrownOf p steps rewrites t → IsRoot (setting t) (refuted p) (root t)
+grown_root p steps rewrites t g =
+    let e : forms_of t.store (normal_ids t) ≡ refuted p = ap (forms_of t.store) g.kept.begun.normal ∙ g.given in
+    record {
+      normal = forms_of t.store (normal_ids t);
+      reached = subst (λ fs. MakesAll (Normalizes (setting t)) (refuted p) (Made.made fs)) (sym e) (all_normal (setting t) refl (refuted p));
+      distinct = refl;
+    }
 
--- a child with its formulas copied twice
-pub child_is : (raw normal f : List Code) (n : NodeCode) → raw ≡ f → normal ≡ f → child_tree (record { raw = raw; normal = normal; node = n }) ≡ bringing (map form_tree f) (node_tree n)
-child_is raw normal f n e g = rw (e, g) (fold-roll-Child Node ChildTree step_of_node step_of_child (record { raw = f; normal = f; node = n }))
+pub stopped_here : (p : Problem) (steps rewrites : ℕ) (t : State) (why : Cause) → IsGrownOf p steps rewrites t → StopsHere steps t why
+    → Stopped (setting t) (refuted p) steps (tree t) why
+stopped_here p steps rewrites t why g s = Stopped.inside (record {
+  root = root t;
+  is_root = grown_root p steps rewrites t g;
+  leaf = s.leaf;
+  is_current = s.is_current;
+  unclosed = s.holds.0;
+  stops = s.holds.1;
+})
 
-pub forms_push : (xs : List (List Code)) (f : List Code) → forms_trees (xs ++ f ∷ []) ≡ forms_trees xs ++ map form_tree f ∷ []
-forms_push [] f = refl
-forms_push (x ∷ xs) f = ap (λ rs. map form_tree x ∷ rs) (forms_push xs f)
+-- one change after another, of which the second takes no Step away
+pub stays_on : (t u v : State) → StaysGrown t u → StaysGrown u v → count (tree u) ≤ count (tree v) → StaysGrown t v
+stays_on t u v g h l p steps rewrites within k = h p steps rewrites within (g p steps rewrites (omega (arith, l, within)) k)
 
-pub forms_front : (cs : List (List Code)) (i : ℕ) (f : List Code) → i < length cs → f ≡ get_or cs i f → forms_trees (take (i + 1) cs) ≡ forms_trees (take i cs) ++ map form_tree f ∷ []
-forms_front cs i f l is = ap forms_trees (take_more cs i f l) ∙ (forms_push (take i cs) (get_or cs i f) ∙ ap (λ g. forms_trees (take i cs) ++ map form_tree g ∷ []) (sym is))
+pub stays_here : (t : State) → StaysGrown t t
+stays_here t p steps rewrites within k = k
 
--- one step of the loop over the children, on values of the code
-pub grown_step : (b : List Form) (d s m a : ℕ) (all all' : List Child) (x : Child) (f : List Code) (n : NodeCode) (w v : Option Why)
-    → AreGrown b d s m (children_tree all) (cause w) → IsNext (extend b (map form_tree f)) d m a (cause w) (node_tree n) (cause v)
-    → child_tree x ≡ bringing (map form_tree f) (node_tree n) → all' ≡ all ++ x ∷ []
-    → AreGrown b d s a (children_tree all') (cause v)
-grown_step b d s m a all all' x f n w v g h e p =
-    let P : List ChildTree → Type 0 = λ cs. AreGrown b d s a (children_of cs) (cause v) in
-    subst P (sym (trees_step all all' x f n e p)) (more_grown b d s m a (map child_tree all) (map form_tree f) (node_tree n) (cause w) (cause v) g h)
+-- where some leaf is Open, and the branch of the first is closed or isn't
+pub unclosed_here : (t : State) → IsSettled t → is_finished (tree t) ≡ false → IsUnclosed t
+unclosed_here t (inl f) e = absurd (let q = sym f ∙ e in cc)
+unclosed_here t (inr u) e = u
 
-pub made_push : (xs : List (List Form)) (f : List Form) → make_children (xs ++ f ∷ []) ≡ make_children xs ++ make_child f ∷ []
-made_push [] f = refl
-made_push (x ∷ xs) f = ap (λ cs. make_child x ∷ cs) (made_push xs f)
+-- a chooser sees as many offers as there are
+pub seen_length : (os : List Offer) (cs : List code.Offer) → AreSeen os cs → length os ≡ length cs
+seen_length [] [] h = refl
+seen_length [] (c ∷ cs) h = absurd h
+seen_length (o ∷ os) [] h = absurd h
+seen_length (o ∷ os) (c ∷ cs) h = let k = seen_length os cs h.1 in omega arith
 
-pub given_step : (all all' : List Child) (x : Child) (n : NodeCode) (cs : List (List Code)) (i : ℕ) (f : List Code)
-    → child_tree x ≡ bringing (map form_tree f) (node_tree n) → all' ≡ all ++ x ∷ []
-    → i < length cs → f ≡ get_or cs i f → given (children_tree all) ≡ make_children (forms_trees (take i cs))
-    → given (children_tree all') ≡ make_children (forms_trees (take (i + 1) cs))
-given_step all all' x n cs i f e p l is q =
-    ap (λ ts. given (children_of ts)) (trees_step all all' x f n e p)
-    ∙ (given_push (map child_tree all) (map form_tree f) (node_tree n)
-    ∙ (ap (λ rs. rs ++ make_child (map form_tree f) ∷ []) q
-    ∙ (sym (made_push (forms_trees (take i cs)) (map form_tree f)) ∙ ap make_children (sym (forms_front cs i f l is)))))
+pub seen_offers : (t : State) (cs : List code.Offer) → AreOffersSeen t cs → HasOffers t (length cs)
+seen_offers t cs a =
+    record { leaf = a.leaf; is_current = a.is_current; holds = (a.holds.0, a.holds.1, seen_length a.holds.0 cs a.holds.2) }
+
+-- what stops the offers
+pub has_stop : (t : State) (stop : BranchStop) → IfStop (IsTooDeep t) stop → HasStop t.store stop
+has_stop t stops.Memory h = tt
+has_stop t (stops.Spent from) h = absurd h
+has_stop t (stops.Deep at) h = h.0
+
+pub deep_here : (steps : ℕ) (t : State) (stop : BranchStop) (why : Why) → IsUnclosed t → IfStop (IsTooDeep t) stop → IsWhyOf t.store stop why
+    → StopsHere steps t (cause_of why)
+deep_here steps t stops.Memory why u h w = absurd w
+deep_here steps t (stops.Spent from) why u h w = absurd h
+deep_here steps t (stops.Deep at) why u h w =
+    let a = h.1 in
+    record {
+      leaf = a.leaf;
+      is_current = a.is_current;
+      holds = (
+        at_leaf t (λ leaf. closing leaf.branch ≡ None) a.leaf u a.is_current,
+        subst (StopsAt (setting t) steps (count (tree t)) a.leaf) (sym w) a.holds,
+      );
+    }
+
+-- a turn takes no Step away
+turn_counts : (steps : ℕ) (t u : State) (x : Turned) → IsTurn steps t u x → count (tree t) ≤ count (tree u)
+turn_counts steps t u turns.Grown h = omega (arith, h.0)
+turn_counts steps t u (turns.Ended why) h = omega (arith, h.0)
+
+pub turned_grown : {E : Type 0} (steps : ℕ) (r : Result Turned E) (t u v : State) → StaysGrown t u → OnOk r (StaysGrown u v) → IfOk r (IsTurn steps u v)
+    → OnOk r (StaysGrown t v)
+turned_grown steps (Ok x) t u v g h k = stays_on t u v g h (turn_counts steps u v x k)
+turned_grown steps (Err e) t u v g h k = tt

@@ -4,11 +4,11 @@ use Rattle.std.proofs.Common.{◌≡◌, ℕ, ◌+◌, ◌*◌, ◌≤◌, ◌<�
 use Rattle.std.proofs.lemmas.Nat.{mul-le}
 use Rattle.zm_logic.specs.Tree.{Form, Connective}
 use Rattle.zm_logic.specs.Same.{same, has}
-use Rattle.search.specs.Branch.{add, extend}
+use Rattle.param_store.specs.RawOffers.{split}
+use Rattle.branch.specs.Branch.{add, extend}
+use Rattle.branch.specs.Offers.{has_all, has_some}
+use Rattle.branch.proofs.Closings.{IsWithin}
 use Rattle.search.specs.Need.{weight, leaves_as, leaves, weights, all_leaves}
-use Rattle.search.specs.Offers.{has_all, has_some}
-use Rattle.search.specs.RawOffers.{split}
-use Rattle.search.proofs.Derived.{IsWithin}
 use Rattle.zm_logic.proofs.Sames.{Contains-cases, Contains-none, has-contains, contains-has, both_true, and_true, either_true, or_left, or_right, same-self, same-true}
 
 -- a formula is settled where some of its children stands on the branch

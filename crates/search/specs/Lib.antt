@@ -1,13 +1,4 @@
-pub mod Propositional
-pub mod Branch
-pub mod Prints
-pub mod Index
-pub mod RawOffers
-pub mod Offers
-pub mod Tableau
-pub mod Stopping
-pub mod Valuation
-pub mod View
-pub mod Grown
-pub mod Searched
 pub mod Need
+pub mod Laws
+pub mod OpenLeaves
+pub mod Searched

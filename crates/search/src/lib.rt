@@ -1,21 +1,13 @@
-//! Search for a closed tableau of a propositional problem, and the valuation that an open one gives.
+//! Search for a closed tableau of a problem, and how many Steps it can need where the problem has no quantifier and no
+//! equality. The definitions stand in `specs/`, and what they promise of tableaux in `laws`.
 #![tactic(auto)]
 
-mod branch;
-mod closing;
-mod growth;
+pub mod laws;
 mod measures;
-mod node;
-mod offer;
-mod prints;
 mod run;
-mod tableau;
 #[cfg(test)]
 mod tests;
-mod valued;
 
+pub use branch::{Closed, Open, Tableau, Why};
 pub use measures::{need, weight};
-pub use node::{Act, Child, ClosingPair, Kind, Node, Why};
-pub use run::{Searched, search};
-pub use tableau::{Closed, Open, Tableau};
-pub use valued::{Valuation, Valued, valuation_of};
+pub use run::{Budget, Searched, search};

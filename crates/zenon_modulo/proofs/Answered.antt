@@ -4,7 +4,7 @@ use Rattle.zm_base.specs.Outside.{Rose, AtEnd, ReadsAtMost}
 use Rattle.zm_base.specs.Library.{NamedFile, file_of}
 use Rattle.zm_logic.specs.Tree.{Form, Problem}
 use Rattle.zm_logic.specs.Problem.{IsTypedProblem}
-use Rattle.search.specs.Tableau.{picks}
+use Rattle.branch.specs.Tableau.{picks}
 use Rattle.tptp_include.specs.Gathering.{Refusal}
 use Rattle.tptp_include.specs.declared.refusal.GatherRefusal.{GatherRefusal}
 use Rattle.tptp_include.specs.declared.refusal.GatherRefusal.TheVariants as gather

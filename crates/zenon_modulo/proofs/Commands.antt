@@ -1,6 +1,6 @@
 -- What words are, by their first ones.
-use Rattle.std.proofs.Common.{◌≡◌, ◌≢◌, ◌<◌, ◌≤◌, ℕ, [], ◌∷◌, List, map, codes, length, get_or, refl, arith, subst, sym, ap, ◌∙◌}
-use Rattle.zenon_modulo.specs.Words.{Word, Operand, Command, Misuse, IsOperand, IsMisuse, IsCommand, AreOptions}
+use Rattle.std.proofs.Common.{◌≡◌, ◌≢◌, ◌<◌, ◌≤◌, ℕ, [], ◌∷◌, List, map, codes, length, get_or, refl, arith, subst, sym, ap, ◌∙◌, Option, Some, None}
+use Rattle.zenon_modulo.specs.Words.{Word, Operand, Command, Misuse, IsOperand, IsMisuse, IsCommand, AreOptions, AllowsSteps, steps_text}
 
 -- the operands of a word are alike: a word that begins with a hyphen and is more than that is none
 pub no_operand_of : (word : Word) → (word ≡ codes "-" → ⊥) → get_or word 0 0 ≡ 45 → (operand : Operand) → IsOperand word operand → ⊥
@@ -43,3 +43,11 @@ module _ {X : Type 0} (f : X → Word) where
       subst (λ m. IsMisuse (mode ∷ map f ws) (Misuse.no_operand m)) (sym (w ∙ e))
       (subst (λ m. IsMisuse (m ∷ map f ws) (Misuse.no_operand (codes "prove"))) (sym e)
       (subst (λ words. IsMisuse (codes "prove" ∷ words) (Misuse.no_operand (codes "prove"))) (sym (no_words ws h)) IsMisuse.no_operand))
+
+-- no command allows more than 1,000,000 Steps
+few_allowed : (text : Option Word) (n : ℕ) → AllowsSteps text n → n ≤ 1000000
+few_allowed None n a = omega (arith, a)
+few_allowed (Some text) n a = a.2
+
+pub few_steps : (words : List Word) (command : Command) → IsCommand words command → command.steps ≤ 1000000
+few_steps words command (IsCommand.prove {options = options} o a) = few_allowed (steps_text options) command.steps a.steps_allowed

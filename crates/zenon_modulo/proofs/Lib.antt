@@ -4,9 +4,10 @@ mod ClapOptions
 mod Commands
 mod Dashes
 mod FileText
-mod LettersAlone
+mod Found
 mod OneReading
 mod Picks
+mod PlainProblems
 mod Printed
 mod SymbolNames
 mod TextAnswered

@@ -10,9 +10,12 @@ pub names_same : (ss : List Symbol) → map (λ s. s.name) (map symbol_tree ss) 
 names_same [] = refl
 names_same (s ∷ ss) = ap (λ ns. s.name ∷ ns) (names_same ss)
 
-pub text_same : (p : Problem) (symbols : List Symbol) (v w : List Valued) (text : List ℕ) → symbols ≡ p.symbols → w ≡ v
+pub text_same : (p q : Problem) (symbols : List Symbol) (v w : List Valued) (text : List ℕ) → q ≡ p → symbols ≡ q.symbols → w ≡ v
     → text ≡ codes "falsified\n" ++ valuation_text (map (λ s. s.name) symbols) w → text ≡ falsified_text (problem_tree p) v
-text_same p symbols v w text e d h =
-    h ∙ ap (λ ss. codes "falsified\n" ++ valuation_text (map (λ s. s.name) ss) w) e
+text_same p q symbols v w text same e d h =
+    h ∙ ap (λ ss. codes "falsified\n" ++ valuation_text (map (λ s. s.name) ss) w) (e ∙ ap listed same)
     ∙ ap (λ x. codes "falsified\n" ++ valuation_text (map (λ s. s.name) p.symbols) x) d
     ∙ ap (λ ns. codes "falsified\n" ++ valuation_text ns v) (sym (names_same p.symbols))
+  where
+    listed : Problem → List Symbol
+    listed p = p.symbols

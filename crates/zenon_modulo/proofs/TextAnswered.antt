@@ -3,7 +3,7 @@ use Rattle.std.proofs.Common.{ℕ, ◌≡◌, ◌≢◌, true, false, List, [], 
 use Rattle.zm_base.specs.Library.{NamedFile}
 use Rattle.zm_logic.specs.Tree.{Problem}
 use Rattle.zm_logic.specs.Problem.{IsTypedProblem}
-use Rattle.search.specs.Tableau.{picks}
+use Rattle.branch.specs.Tableau.{picks}
 use Rattle.tptp_include.specs.Gathering.{Placed, Refusal, Outcome as gathering, GathersAll}
 use Rattle.tptp_include.specs.declared.refusal.GatherRefusal.{GatherRefusal}
 use Rattle.tptp_include.specs.declared.refusal.GatherRefusal.TheVariants as gather
@@ -15,7 +15,7 @@ use Rattle.zenon_modulo.specs.declared.outcome.Outcome.{Outcome}
 use Rattle.zenon_modulo.specs.declared.outcome.Outcome.TheVariants.{Proved, Falsified, Unknown, Refused, Usage, ReadFault, LibraryFault, WriteFault, Memory}
 use Rattle.zenon_modulo.specs.declared.outcome.InputRefusal.{InputRefusal}
 use Rattle.zenon_modulo.specs.declared.outcome.InputRefusal.TheVariants as refusals
-use Rattle.zenon_modulo.specs.Letters.{is_built}
+use Rattle.zenon_modulo.specs.Fragments.{is_built}
 use Rattle.zenon_modulo.specs.Input.{Name, IsGatheredFrom, Makes}
 use Rattle.zenon_modulo.specs.Report.{IsReport, ExplainsText, AnswersText, IsRefusedOr, IsUngathered}
 

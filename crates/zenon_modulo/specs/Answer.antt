@@ -1,16 +1,18 @@
 -- What an answer claims.
-use Rattle.std.specs.Prelude.{ℕ, ◌≡◌, ◌≢◌, ◌≤◌, ◌+◌, true, List, [], Option, Some, All, ◌⊎◌}
-use Rattle.zm_logic.specs.Tree.{Problem}
+use Rattle.std.specs.Prelude.{ℕ, ◌≡◌, ◌≢◌, ◌≤◌, ◌+◌, true, false, List, [], Option, Some, All, ◌⊎◌}
+use Rattle.zm_logic.specs.Tree.{Form, Problem}
 use Rattle.zm_logic.specs.Calculus.{Derives}
 use Rattle.zm_logic.specs.Truth.{Valued, Falsifies, refuted}
 use Rattle.zm_base.specs.Outside.{Rose, AtEnd, ReadsAtMost}
 use Rattle.zm_base.specs.Library.{NamedFile}
-use Rattle.search.specs.Tableau.{Node, Leaf, IsTableau, root, is_finished, count, picks, current}
-use Rattle.search.specs.Stopping.{Cause, Stopped}
+use Rattle.branch.specs.Branch.{extend}
+use Rattle.branch.specs.Setting.{Setting}
+use Rattle.branch.specs.Tableau.{Node, Leaf, IsTableau, is_finished, count, picks, current_leaf}
+use Rattle.branch.specs.Stopping.{Cause, Stopped}
 use Rattle.search.specs.Need.{weights, need}
-use Rattle.search.specs.Valuation.{valuation}
+use Rattle.valuation.specs.Valuation.{valuation}
 use Rattle.zenon_modulo.specs.Words.{Word, Operand, Command, IsCommand, IsMisuse}
-use Rattle.zenon_modulo.specs.Letters.{is_built}
+use Rattle.zenon_modulo.specs.Fragments.{is_built, is_quantifier_free}
 use Rattle.zenon_modulo.specs.Input.{IsProblem, IfTold, Explains, IsTaken, IsCut, input_limit}
 use Rattle.zenon_modulo.specs.declared.outcome.Outcome.{Outcome}
 use Rattle.zenon_modulo.specs.declared.outcome.Outcome.TheVariants as outcomes
@@ -18,10 +20,18 @@ use Rattle.zenon_modulo.specs.declared.outcome.InputRefusal.{InputRefusal}
 use Rattle.zenon_modulo.specs.declared.outcome.InputRefusal.TheVariants as refusals
 use Rattle.zenon_modulo.specs.Outcome.{IfProved, IfFalsified, IfUnknown, IfSearched, IfRefused, IfRead, IfUsage}
 
+-- a search for a problem has no rules, takes at most 10,000 steps of rewriting for a normal form, and skips nothing
+abbrev pub setting : Problem → Setting
+setting p = record { symbols = p.symbols; rules = []; rewrites = 10000; prunes = false }
+
+-- its root's branch
+abbrev pub root : Problem → List Form
+root p = extend [] (refuted p)
+
 -- Proved: a closed tableau of the problem within the Steps allowed. The premises with the negated conjecture have a derivation.
 pub record IsProof (steps : ℕ) (p : Problem) (tree : Node) : Type 0 where
   pub built : is_built p ≡ true
-  pub tableau : IsTableau (root p) tree
+  pub tableau : IsTableau (setting p) (root p) tree
   pub closed : is_finished tree ≡ true
   pub within : count tree ≤ steps
   pub derivation : Derives p.symbols [] (refuted p)
@@ -30,23 +40,24 @@ pub record IsProof (steps : ℕ) (p : Problem) (tree : Node) : Type 0 where
 -- left, makes every premise true and the conjecture false.
 pub record IsCountermodel (steps : ℕ) (p : Problem) (v : List Valued) (tree : Node) : Type 0 where
   pub built : is_built p ≡ true
-  pub tableau : IsTableau (root p) tree
+  pub quantifier_free : is_quantifier_free p ≡ true
+  pub tableau : IsTableau (setting p) (root p) tree
   pub within : count tree ≤ steps
-  pub stopped : Stopped (root p) steps tree Cause.saturated
+  pub stopped : Stopped (setting p) (refuted p) steps tree Cause.saturated
   pub leaf : Leaf
-  pub is_current : current (root p) 0 tree ≡ Some leaf
+  pub is_current : current_leaf (root p) tree ≡ Some leaf
   pub listed : v ≡ valuation leaf.branch p
   pub falsifies : Falsifies v p
 
--- Unknown: the search stopped at the current branch for the cause, which isn't that no Step was left to make there. The
--- problem's weight is over 512, or it needs more Steps than are allowed.
+-- Unknown: the search stopped for the cause. Where the problem has no quantifier, the cause isn't that no Step was left to
+-- make on the current branch; and the problem's weight is over 512, or it needs more Steps than are allowed.
 pub record IsUndecided (steps : ℕ) (p : Problem) (why : Cause) (tree : Node) : Type 0 where
   pub built : is_built p ≡ true
-  pub tableau : IsTableau (root p) tree
+  pub tableau : IsTableau (setting p) (root p) tree
   pub within : count tree ≤ steps
-  pub stopped : Stopped (root p) steps tree why
-  pub unsaturated : why ≢ Cause.saturated
-  pub beyond : weights (refuted p) ≤ 512 → need (refuted p) ≤ steps → ⊥
+  pub stopped : Stopped (setting p) (refuted p) steps tree why
+  pub unsaturated : is_quantifier_free p ≡ true → why ≢ Cause.saturated
+  pub beyond : is_quantifier_free p ≡ true → weights (refuted p) ≤ 512 → need (refuted p) ≤ steps → ⊥
 
 -- The words are a command, and the claim holds of the Steps that it allows and of the problem that its operand spells.
 pub record ForProblem (words : List Word) (left : Option (List ℕ)) (files : Option (List NamedFile)) (claim : ℕ → Problem → Type 0) : Type 0 where

@@ -11,7 +11,7 @@ use Rattle.tff_typing.specs.View.{Refuses}
 use Rattle.zenon_modulo.specs.declared.outcome.InputRefusal.{InputRefusal}
 use Rattle.zenon_modulo.specs.declared.outcome.InputRefusal.TheVariants as refusals
 use Rattle.zenon_modulo.specs.Words.{Operand}
-use Rattle.zenon_modulo.specs.Letters.{is_built}
+use Rattle.zenon_modulo.specs.Fragments.{is_built}
 
 abbrev pub Name : Type 0
 Name = List ℕ

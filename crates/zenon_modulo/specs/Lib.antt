@@ -1,7 +1,7 @@
 pub mod Answer
+pub mod Fragments
 pub mod Input
 pub mod Laws
-pub mod Letters
 pub mod Message
 pub mod Names
 pub mod Outcome

@@ -5,9 +5,11 @@ use Rattle.zenon_modulo.specs.declared.outcome.Outcome.TheVariants as outcomes
 use Rattle.zenon_modulo.specs.declared.outcome.InputRefusal.{InputRefusal}
 use Rattle.zenon_modulo.specs.declared.outcome.InputRefusal.TheVariants as refusals
 use Rattle.zm_logic.specs.Truth.{Valued}
-use Rattle.search.specs.Tableau.{Node}
-use Rattle.search.specs.Stopping.{Cause}
-use Rattle.search.specs.View.{tree_of, cause_of, valued_tree}
+use Rattle.branch.specs.Tableau.{Node}
+use Rattle.branch.specs.Stopping.{Cause}
+use Rattle.branch.specs.State.{tree}
+use Rattle.branch.specs.Causes.{cause_of}
+use Rattle.valuation.specs.View.{valued_tree}
 use Rattle.zenon_modulo.specs.Words.{Misuse}
 use Rattle.zenon_modulo.specs.WordsRead.{misuse_of}
 
@@ -25,24 +27,24 @@ status outcomes.Memory = 7
 
 -- the claim holds of the tableau, where the answer is Proved
 abbrev pub IfProved : Outcome → (Node → Type 0) → Type 0
-IfProved (outcomes.Proved tableau) claim = claim (tree_of tableau)
+IfProved (outcomes.Proved tableau) claim = claim (tree tableau)
 IfProved answer claim = Unit {0}
 
 -- the claim holds of the valuation and the tableau, where the answer is Falsified
 abbrev pub IfFalsified : Outcome → (List Valued → Node → Type 0) → Type 0
-IfFalsified (outcomes.Falsified valuation tableau) claim = claim (map valued_tree valuation) (tree_of tableau)
+IfFalsified (outcomes.Falsified valuation tableau) claim = claim (map valued_tree valuation) (tree tableau)
 IfFalsified answer claim = Unit {0}
 
 -- the claim holds of the cause and the tableau, where the answer is Unknown
 abbrev pub IfUnknown : Outcome → (Cause → Node → Type 0) → Type 0
-IfUnknown (outcomes.Unknown why tableau) claim = claim (cause_of why) (tree_of tableau)
+IfUnknown (outcomes.Unknown why tableau) claim = claim (cause_of why) (tree tableau)
 IfUnknown answer claim = Unit {0}
 
 -- the claim holds of the tableau, where the answer has one
 abbrev pub IfSearched : Outcome → (Node → Type 0) → Type 0
-IfSearched (outcomes.Proved tableau) claim = claim (tree_of tableau)
-IfSearched (outcomes.Falsified valuation tableau) claim = claim (tree_of tableau)
-IfSearched (outcomes.Unknown why tableau) claim = claim (tree_of tableau)
+IfSearched (outcomes.Proved tableau) claim = claim (tree tableau)
+IfSearched (outcomes.Falsified valuation tableau) claim = claim (tree tableau)
+IfSearched (outcomes.Unknown why tableau) claim = claim (tree tableau)
 IfSearched answer claim = Unit {0}
 
 -- the claim holds of the refusal, where the answer is Refused

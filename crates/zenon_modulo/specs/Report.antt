@@ -5,11 +5,12 @@ use Rattle.zm_base.specs.Library.{NamedFile, file_of}
 use Rattle.zm_logic.specs.Tree.{Problem}
 use Rattle.zm_logic.specs.Problem.{IsTypedProblem}
 use Rattle.zm_logic.specs.Truth.{refuted}
-use Rattle.search.specs.Tableau.{Node, IsTableau, root, count, picks}
-use Rattle.search.specs.Stopping.{Cause, Stopped}
-use Rattle.search.specs.Need.{weights, need}
-use Rattle.search.specs.View.{tree_of, cause_of, valued_tree}
-use Rattle.search.specs.Searched.{WhereSaturated}
+use Rattle.branch.specs.Tableau.{Node, picks}
+use Rattle.branch.specs.Stopping.{Cause, Stopped}
+use Rattle.branch.specs.State.{State, tree}
+use Rattle.branch.specs.Causes.{cause_of}
+use Rattle.valuation.specs.View.{valued_tree}
+use Rattle.search.specs.Searched.{IsGrownOf}
 use Rattle.search.specs.declared.run.Searched.{Searched}
 use Rattle.search.specs.declared.run.Searched.TheVariants.{Closed, Open}
 use Rattle.tptp_include.specs.Gathering.{Placed, Refusal, Outcome as gathering, GathersAll}
@@ -24,38 +25,34 @@ use Rattle.zenon_modulo.specs.declared.outcome.InputRefusal.TheVariants as refus
 use Rattle.zenon_modulo.specs.declared.answer.FileStop.{FileStop}
 use Rattle.zenon_modulo.specs.declared.answer.FileStop.TheVariants as stops
 use Rattle.zenon_modulo.specs.Outcome.{IfSearched}
-use Rattle.zenon_modulo.specs.Letters.{is_built}
+use Rattle.zenon_modulo.specs.Fragments.{is_built}
 use Rattle.zenon_modulo.specs.Words.{Operand}
 use Rattle.zenon_modulo.specs.Input.{Name, IsGatheredFrom, Makes, IfTold, IsTaken, HasTooMany, input_limit}
-use Rattle.zenon_modulo.specs.Answer.{IsProof, IsCountermodel, IsUndecided}
+use Rattle.zenon_modulo.specs.Answer.{setting, IsProof, IsCountermodel, IsUndecided}
 use Rattle.zenon_modulo.specs.Text.{out_text}
 
 -- a closed tableau that a search within the Steps allowed found
-pub record IsClosedFor (steps : ℕ) (p : Problem) (tree : Node) : Type 0 where
-  pub proof : IsProof steps p tree
-  pub picked : All (λ k. k ≡ 0) (picks tree)
+pub record IsClosedFor (steps : ℕ) (p : Problem) (node : Node) : Type 0 where
+  pub proof : IsProof steps p node
+  pub picked : All (λ k. k ≡ 0) (picks node)
 
--- A search within the Steps allowed stopped for the cause. Where no Step was left, the valuation of the branch falsifies the
--- problem; a problem that needs no more Steps than are allowed has stops for no other cause.
-pub record IsStoppedFor (steps : ℕ) (p : Problem) (why : Cause) (tree : Node) : Type 0 where
+-- A search for a typed problem within the Steps allowed, each of which took the first offer, stopped for the cause.
+pub record IsStoppedFor (steps : ℕ) (p : Problem) (why : Cause) (t : State) : Type 0 where
+  pub typed : IsTypedProblem p
   pub built : is_built p ≡ true
-  pub tableau : IsTableau (root p) tree
-  pub within : count tree ≤ steps
-  pub stopped : Stopped (root p) steps tree why
-  pub falsified : WhereSaturated p tree why
-  pub decided : weights (refuted p) ≤ 512 → need (refuted p) ≤ steps → why ≡ Cause.saturated
-  pub picked : All (λ k. k ≡ 0) (picks tree)
+  pub grown : IsGrownOf p steps 10000 t
+  pub stopped : Stopped (setting p) (refuted p) steps (tree t) why
 
 -- what a search for the problem found
 abbrev pub IsFoundFor : ℕ → Problem → Searched → Type 0
-IsFoundFor steps p (Closed tableau) = IsClosedFor steps p (tree_of tableau)
-IsFoundFor steps p (Open tableau why) = IsStoppedFor steps p (cause_of why) (tree_of tableau)
+IsFoundFor steps p (Closed tableau) = IsClosedFor steps p (tree tableau)
+IsFoundFor steps p (Open tableau why) = IsStoppedFor steps p (cause_of why) tableau
 
 -- the answer reports a search for the problem
 abbrev pub Reports : ℕ → Problem → Outcome → Type 0
-Reports steps p (outcomes.Proved tableau) = IsProof steps p (tree_of tableau)
-Reports steps p (outcomes.Falsified valuation tableau) = IsCountermodel steps p (map valued_tree valuation) (tree_of tableau)
-Reports steps p (outcomes.Unknown why tableau) = IsUndecided steps p (cause_of why) (tree_of tableau)
+Reports steps p (outcomes.Proved tableau) = IsProof steps p (tree tableau)
+Reports steps p (outcomes.Falsified valuation tableau) = IsCountermodel steps p (map valued_tree valuation) (tree tableau)
+Reports steps p (outcomes.Unknown why tableau) = IsUndecided steps p (cause_of why) (tree tableau)
 Reports steps p (outcomes.Refused refusal) = ⊥
 Reports steps p (outcomes.Usage refusal) = ⊥
 Reports steps p outcomes.ReadFault = ⊥
@@ -66,7 +63,7 @@ Reports steps p outcomes.Memory = ⊥
 -- an answer with the text that goes with it, for a problem
 pub record IsReport (steps : ℕ) (p : Problem) (answer : Outcome) (text : List ℕ) : Type 0 where
   pub reports : Reports steps p answer
-  pub picked : IfSearched answer (λ tree. All (λ k. k ≡ 0) (picks tree))
+  pub picked : IfSearched answer (λ node. All (λ k. k ≡ 0) (picks node))
   pub written : text ≡ out_text p answer
 
 -- the report of a search for the problem that a text makes

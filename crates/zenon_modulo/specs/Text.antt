@@ -2,9 +2,11 @@
 use Rattle.std.specs.Prelude.{ℕ, Bool, codes, decimal, cond, List, [], ◌∷◌, ◌++◌, map, flat_map}
 use Rattle.zm_logic.specs.Tree.{Form, Problem}
 use Rattle.zm_logic.specs.Truth.{Valued}
-use Rattle.search.specs.Tableau.{Node, picks}
-use Rattle.search.specs.Stopping.{Cause}
-use Rattle.search.specs.View.{tree_of, cause_of, valued_tree}
+use Rattle.branch.specs.Tableau.{Node, picks}
+use Rattle.branch.specs.Stopping.{Cause}
+use Rattle.branch.specs.State.{tree}
+use Rattle.branch.specs.Causes.{cause_of}
+use Rattle.valuation.specs.View.{valued_tree}
 use Rattle.zenon_modulo.specs.declared.outcome.Outcome.{Outcome}
 use Rattle.zenon_modulo.specs.declared.outcome.Outcome.TheVariants as outcomes
 use Rattle.zenon_modulo.specs.Names.{Name, atom_text}
@@ -36,21 +38,23 @@ abbrev pub cause_text : Cause → List ℕ
 cause_text Cause.saturated = codes "saturated"
 cause_text Cause.steps = codes "steps"
 cause_text Cause.branch_length = codes "branch length"
+cause_text (Cause.rewrites from) = codes "rewrites"
+cause_text (Cause.deep at) = codes "depth"
 
 abbrev pub proved_text : Node → List ℕ
-proved_text tree = codes "(; proved ;)\n(; picks:" ++ picks_text (picks tree) ++ codes " ;)\n"
+proved_text node = codes "(; proved ;)\n(; picks:" ++ picks_text (picks node) ++ codes " ;)\n"
 
 abbrev pub falsified_text : Problem → List Valued → List ℕ
 falsified_text p v = codes "falsified\n" ++ valuation_text (symbol_names p) v
 
 abbrev pub unknown_text : Cause → Node → List ℕ
-unknown_text why tree = codes "unknown: " ++ cause_text why ++ codes "\npicks:" ++ picks_text (picks tree) ++ codes "\n"
+unknown_text why node = codes "unknown: " ++ cause_text why ++ codes "\npicks:" ++ picks_text (picks node) ++ codes "\n"
 
 -- what is written to the sink for results
 abbrev pub out_text : Problem → Outcome → List ℕ
-out_text p (outcomes.Proved tableau) = proved_text (tree_of tableau)
+out_text p (outcomes.Proved tableau) = proved_text (tree tableau)
 out_text p (outcomes.Falsified valuation tableau) = falsified_text p (map valued_tree valuation)
-out_text p (outcomes.Unknown why tableau) = unknown_text (cause_of why) (tree_of tableau)
+out_text p (outcomes.Unknown why tableau) = unknown_text (cause_of why) (tree tableau)
 out_text p (outcomes.Refused refusal) = []
 out_text p (outcomes.Usage refusal) = []
 out_text p outcomes.ReadFault = []

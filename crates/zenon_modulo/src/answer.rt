@@ -2,8 +2,9 @@ ghost use Rattle.std.specs.Prelude.{◌≡◌, ◌≤◌, ℕ, List, [], true, O
 ghost use Rattle.zm_base.specs.Outside.{Rose};
 ghost use Rattle.zm_base.specs.Library.{NamedFile, bytes_of};
 ghost use Rattle.zm_logic.specs.View.{problem_tree};
+ghost use Rattle.zm_logic.specs.Problem.{IsTypedProblem};
 ghost use Rattle.tptp_include.specs.Outcomes.{placed_of};
-ghost use Rattle.zenon_modulo.specs.Letters.{is_built as spec_is_built};
+ghost use Rattle.zenon_modulo.specs.Fragments.{is_built as spec_is_built};
 ghost use Rattle.zenon_modulo.specs.Words.{Word, Operand as OperandTree, IsCommand};
 ghost use Rattle.zenon_modulo.specs.WordsRead.{command_tree};
 ghost use Rattle.zenon_modulo.specs.Input.{Name, IsGatheredFrom, Makes, input_limit};
@@ -13,18 +14,19 @@ ghost use Rattle.zenon_modulo.specs.Writing.{IsTextOf};
 ghost use Rattle.zenon_modulo.specs.Report.{IsReport, IsRefusedOr, AnswersText, IsFile, IsFileRead, IsUngathered, IsMissing};
 ghost use Rattle.zenon_modulo.specs.Message.{refusal_text as spec_refusal_text};
 
-use crate::letters::is_built;
+use crate::fragments::is_built;
 use crate::message::refusal_text;
 use crate::outcome::{InputRefusal, Outcome};
 use crate::report::{Answer, report};
 use crate::words::{Command, Operand, WordsStop, read_words};
-use search::search;
+use rule_select::keep_all;
+use search::{Budget, search};
 use std::alloc::{AllocError, Global};
 use tff_typing::{TypeStop, type_problem};
 use tptp_include::{GatherRefusal, Gathered, gather};
 use tptp_reader::Text;
 use zm_base::{Got, LibFail, Library, ReadStop, Source, read_to_limit};
-use zm_logic::{Problem, TypedProblem};
+use zm_logic::TypedProblem;
 
 /// The greatest number of bytes of the operand.
 pub const INPUT_LIMIT: usize = 16_777_216;
@@ -63,22 +65,31 @@ fn refused(alloc: Global, refusal: InputRefusal) -> Answer
 }
 
 // Searches, and reports what was found.
-fn solve(alloc: Global, problem: &Problem, steps: u32) -> Result<Answer, AllocError>
-    requires { spec_is_built (problem_tree problem.now) ≡ true }
+fn solve(alloc: Global, problem: &TypedProblem, steps: u32) -> Result<Answer, AllocError>
+    requires typed { IsTypedProblem (problem_tree problem.now) }
+    requires built { spec_is_built (problem_tree problem.now) ≡ true }
+    requires few { steps ≤ 1000000 }
     ensures { IfOk result (λ r. IsReport steps (problem_tree problem.now) r.outcome r.text.items) }
 {
-    let searched = search(alloc, problem, steps)?;
+    let selection = keep_all(alloc, problem)?;
+    let budget = Budget {
+        steps,
+        rewrites: 10_000,
+    };
+    let searched = search(alloc, problem, &selection, budget)?;
     report(alloc, problem, steps, searched)
 }
 
 // What is answered to a problem that is built.
 fn answer_built(alloc: Global, problem: &TypedProblem, steps: u32) -> Answer
-    requires { spec_is_built (problem_tree problem.now) ≡ true }
+    requires typed { IsTypedProblem (problem_tree problem.now) }
+    requires built { spec_is_built (problem_tree problem.now) ≡ true }
+    requires few { steps ≤ 1000000 }
     ensures answer { (files : Option (List NamedFile)) (name : Name) (bytes : List ℕ) → IfSome files (λ fs. Makes fs name bytes (problem_tree problem.now)) → AnswersText files name bytes steps result.outcome result.text.items }
     ensures message { IfRefused result.outcome (λ refusal. result.message.items ≡ spec_refusal_text refusal) }
     ensures library { result.outcome ≢ Outcome.LibraryFault }
 {
-    match solve(alloc, problem.problem(), steps) {
+    match solve(alloc, problem, steps) {
         Ok(answer) => answer,
         Err(AllocError) => plain(alloc, Outcome::Memory),
     }
@@ -86,6 +97,7 @@ fn answer_built(alloc: Global, problem: &TypedProblem, steps: u32) -> Answer
 
 // What is answered to a typed problem.
 fn answer_problem(alloc: Global, problem: &TypedProblem, steps: u32) -> Answer
+    requires { steps ≤ 1000000 }
     ensures answer { (files : Option (List NamedFile)) (name : Name) (bytes : List ℕ) → IfSome files (λ fs. Makes fs name bytes (problem_tree problem.now)) → AnswersText files name bytes steps result.outcome result.text.items }
     ensures message { IfRefused result.outcome (λ refusal. result.message.items ≡ spec_refusal_text refusal) }
     ensures library { result.outcome ≢ Outcome.LibraryFault }
@@ -98,6 +110,7 @@ fn answer_problem(alloc: Global, problem: &TypedProblem, steps: u32) -> Answer
 
 // What is answered to gathered statements.
 fn answer_statements(alloc: Global, gathered: &Gathered, steps: u32) -> Answer
+    requires { steps ≤ 1000000 }
     ensures answer { (files : Option (List NamedFile)) (name : Name) (bytes : List ℕ) → IfSome files (λ fs. IsGatheredFrom fs name bytes (map placed_of gathered.now)) → AnswersText files name bytes steps result.outcome result.text.items }
     ensures message { IfRefused result.outcome (λ refusal. result.message.items ≡ spec_refusal_text refusal) }
     ensures library { result.outcome ≢ Outcome.LibraryFault }
@@ -130,7 +143,8 @@ fn answer_text<L: Library>(
     bytes: &[u8],
     steps: u32,
 ) -> Answer
-    requires { length bytes.now ≤ input_limit }
+    requires fits { length bytes.now ≤ input_limit }
+    requires few { steps ≤ 1000000 }
     ensures answer { AnswersText (L.files library.old) name.now bytes.now steps result.outcome result.text.items }
     ensures message { IfRefused result.outcome (λ refusal. result.message.items ≡ spec_refusal_text refusal) }
     ensures files { L.files library.new ≡ L.files library.old }
@@ -150,6 +164,7 @@ fn answer_source<S: Source, L: Library>(
     input: &mut S,
     library: &mut L,
 ) -> Answer
+    requires { steps ≤ 1000000 }
     ensures answered { (words : List Word) → IsCommand words (record { operand = OperandTree.source; steps = steps })
         → IsAnswer (call_of words (S.left input.old) (S.left input.new) (S.faults input.old) (S.faults input.new) (L.files library.old) (L.faults library.old) (L.faults library.new)) result.outcome }
     ensures text { (words : List Word) → IsCommand words (record { operand = OperandTree.source; steps = steps })
@@ -221,6 +236,7 @@ fn missing(alloc: Global, name: &str) -> Answer
 
 // What is answered to a file.
 fn answer_file<L: Library>(alloc: Global, steps: u32, library: &mut L, name: &str) -> Answer
+    requires { steps ≤ 1000000 }
     ensures answered { (words : List Word) (left : Option (List ℕ)) (faults : ℕ) → IsCommand words (record { operand = OperandTree.file name.now; steps = steps })
         → IsAnswer (call_of words left left faults faults (L.files library.old) (L.faults library.old) (L.faults library.new)) result.outcome }
     ensures text { (words : List Word) (left : Option (List ℕ)) (faults : ℕ) → IsCommand words (record { operand = OperandTree.file name.now; steps = steps })
@@ -244,6 +260,7 @@ fn answer_command<S: Source, L: Library>(
     input: &mut S,
     library: &mut L,
 ) -> Answer
+    requires { command.now.steps ≤ 1000000 }
     ensures answered { (words : List Word) → IsCommand words (command_tree command.now)
         → IsAnswer (call_of words (S.left input.old) (S.left input.new) (S.faults input.old) (S.faults input.new) (L.files library.old) (L.faults library.old) (L.faults library.new)) result.outcome }
     ensures text { (words : List Word) → IsCommand words (command_tree command.now)

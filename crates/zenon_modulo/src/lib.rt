@@ -3,8 +3,8 @@
 #![tactic(auto)]
 
 mod answer;
+mod fragments;
 pub mod laws;
-mod letters;
 mod message;
 mod names;
 mod options;

@@ -1,7 +1,8 @@
 use crate::words::UsageRefusal;
-use search::{Closed, Open, Tableau, Valuation, Why};
+use search::{Closed, Open, Tableau, Why};
 use tff_typing::TypeRefusal;
 use tptp_include::GatherRefusal;
+use valuation::Valuation;
 
 /// Why an input is refused.
 #[derive(Drop)]
@@ -12,7 +13,7 @@ pub enum InputRefusal {
     Typing(TypeRefusal),
     /// The operand has more than 16,777,216 bytes.
     TooLarge,
-    /// The problem is well typed, and holds a quantifier, an equality or an atom with arguments.
+    /// The problem is well typed, and holds an equality.
     NotBuilt,
 }
 

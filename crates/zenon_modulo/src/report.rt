@@ -1,16 +1,21 @@
-ghost use Rattle.std.specs.Prelude.{◌≡◌, ◌≢◌, map, IfOk};
+ghost use Rattle.std.specs.Prelude.{◌≡◌, ◌≢◌, true, map, IfOk};
 ghost use Rattle.zm_logic.specs.View.{problem_tree};
-ghost use Rattle.search.specs.Stopping.{Cause};
-ghost use Rattle.search.specs.View.{tree_of, cause_of, valued_tree};
+ghost use Rattle.branch.specs.Stopping.{Cause};
+ghost use Rattle.branch.specs.State.{tree};
+ghost use Rattle.branch.specs.Causes.{cause_of};
+ghost use Rattle.valuation.specs.View.{valued_tree};
+ghost use Rattle.zenon_modulo.specs.Fragments.{is_quantifier_free as spec_is_quantifier_free};
 ghost use Rattle.zenon_modulo.specs.Answer.{IsCountermodel};
 ghost use Rattle.zenon_modulo.specs.Report.{IsClosedFor, IsStoppedFor, IsFoundFor, IsReport};
 ghost use Rattle.zenon_modulo.specs.Text.{falsified_text as spec_falsified_text};
 
+use crate::fragments::is_quantifier_free;
 use crate::outcome::Outcome;
 use crate::text::{falsified_text, proved_text, unknown_text};
-use search::{Closed, Open, Searched, Tableau, Valuation, Why, valuation_of};
+use search::{Closed, Open, Searched, Tableau, Why};
 use std::alloc::{AllocError, Global};
-use zm_logic::Problem;
+use valuation::{Valuation, valuation_of};
+use zm_logic::TypedProblem;
 
 /// An answer, what is written for it to the sink for results, and what is told of a refused input.
 #[derive(Drop)]
@@ -34,11 +39,11 @@ fn reported(alloc: Global, outcome: Outcome, text: Vec<u8>) -> Answer
 
 fn report_proved(
     alloc: Global,
-    problem: &Problem,
+    problem: &TypedProblem,
     steps: u32,
     tableau: Tableau<Closed>,
 ) -> Result<Answer, AllocError>
-    requires { IsClosedFor steps (problem_tree problem.now) (tree_of tableau) }
+    requires { IsClosedFor steps (problem_tree problem.now) (tree tableau) }
     ensures { IfOk result (λ r. IsReport steps (problem_tree problem.now) r.outcome r.text.items) }
 {
     let text = proved_text(alloc, &tableau)?;
@@ -55,26 +60,32 @@ struct Countermodel {
 
 fn countermodel_of(
     alloc: Global,
-    problem: &Problem,
+    problem: &TypedProblem,
     steps: u32,
     tableau: &Tableau<Open>,
 ) -> Result<Countermodel, AllocError>
-    requires { IsStoppedFor steps (problem_tree problem.now) Cause.saturated (tree_of tableau.now) }
-    ensures valuation { IfOk result (λ m. IsCountermodel steps (problem_tree problem.now) (map valued_tree m.valuation) (tree_of tableau.now)) }
+    requires stopped { IsStoppedFor steps (problem_tree problem.now) Cause.saturated tableau.now }
+    requires quantifier_free { spec_is_quantifier_free (problem_tree problem.now) ≡ true }
+    ensures valuation { IfOk result (λ m. IsCountermodel steps (problem_tree problem.now) (map valued_tree m.valuation) (tree tableau.now)) }
     ensures text { IfOk result (λ m. m.text.items ≡ spec_falsified_text (problem_tree problem.now) (map valued_tree m.valuation)) }
 {
     let valuation = valuation_of(alloc, tableau, problem)?;
-    let text = falsified_text(alloc, problem.symbols.as_slice(), valuation.as_slice())?;
+    let text = falsified_text(
+        alloc,
+        problem.problem().symbols.as_slice(),
+        valuation.as_slice(),
+    )?;
     Ok(Countermodel { valuation, text })
 }
 
 fn report_falsified(
     alloc: Global,
-    problem: &Problem,
+    problem: &TypedProblem,
     steps: u32,
     tableau: Tableau<Open>,
 ) -> Result<Answer, AllocError>
-    requires { IsStoppedFor steps (problem_tree problem.now) Cause.saturated (tree_of tableau) }
+    requires stopped { IsStoppedFor steps (problem_tree problem.now) Cause.saturated tableau }
+    requires quantifier_free { spec_is_quantifier_free (problem_tree problem.now) ≡ true }
     ensures { IfOk result (λ r. IsReport steps (problem_tree problem.now) r.outcome r.text.items) }
 {
     let Countermodel { valuation, text } = countermodel_of(alloc, problem, steps, &tableau)?;
@@ -84,41 +95,61 @@ fn report_falsified(
 
 fn report_unknown(
     alloc: Global,
-    problem: &Problem,
+    problem: &TypedProblem,
     steps: u32,
     why: Why,
     tableau: Tableau<Open>,
 ) -> Result<Answer, AllocError>
-    requires stopped { IsStoppedFor steps (problem_tree problem.now) (cause_of why) (tree_of tableau) }
-    requires unsaturated { cause_of why ≢ Cause.saturated }
+    requires stopped { IsStoppedFor steps (problem_tree problem.now) (cause_of why) tableau }
+    requires unsaturated { spec_is_quantifier_free (problem_tree problem.now) ≡ true → cause_of why ≢ Cause.saturated }
     ensures { IfOk result (λ r. IsReport steps (problem_tree problem.now) r.outcome r.text.items) }
 {
-    let text = unknown_text(alloc, why, &tableau)?;
+    let text = unknown_text(alloc, &why, &tableau)?;
     let outcome = Outcome::Unknown { why, tableau };
     Ok(reported(alloc, outcome, text))
 }
 
+// A saturated tableau falsifies a problem without quantifiers; of another one it says nothing.
+fn report_saturated(
+    alloc: Global,
+    problem: &TypedProblem,
+    steps: u32,
+    tableau: Tableau<Open>,
+) -> Result<Answer, AllocError>
+    requires { IsStoppedFor steps (problem_tree problem.now) Cause.saturated tableau }
+    ensures { IfOk result (λ r. IsReport steps (problem_tree problem.now) r.outcome r.text.items) }
+{
+    if is_quantifier_free(problem.problem()) {
+        return report_falsified(alloc, problem, steps, tableau);
+    }
+    report_unknown(alloc, problem, steps, Why::Saturated, tableau)
+}
+
 fn report_open(
     alloc: Global,
-    problem: &Problem,
+    problem: &TypedProblem,
     steps: u32,
     tableau: Tableau<Open>,
     why: Why,
 ) -> Result<Answer, AllocError>
-    requires { IsStoppedFor steps (problem_tree problem.now) (cause_of why) (tree_of tableau) }
+    requires { IsStoppedFor steps (problem_tree problem.now) (cause_of why) tableau }
     ensures { IfOk result (λ r. IsReport steps (problem_tree problem.now) r.outcome r.text.items) }
 {
     match why {
-        Why::Saturated => report_falsified(alloc, problem, steps, tableau),
+        Why::Saturated => report_saturated(alloc, problem, steps, tableau),
         Why::Steps => report_unknown(alloc, problem, steps, Why::Steps, tableau),
         Why::BranchLength => report_unknown(alloc, problem, steps, Why::BranchLength, tableau),
+        Why::Rewrites { from } => {
+            report_unknown(alloc, problem, steps, Why::Rewrites { from }, tableau)
+        }
+        Why::Deep { at } => report_unknown(alloc, problem, steps, Why::Deep { at }, tableau),
     }
 }
 
 /// What is answered to a search with so many Steps at most.
 pub fn report(
     alloc: Global,
-    problem: &Problem,
+    problem: &TypedProblem,
     steps: u32,
     searched: Searched,
 ) -> Result<Answer, AllocError>

@@ -1,3 +1,5 @@
+mod first_order;
+
 use super::*;
 use std::alloc::Global;
 use std::process::Abort;
@@ -76,7 +78,7 @@ fn expect_all(rt: &impl Abort, alloc: Global, rows: &[(&str, u8, &str, &str)]) -
     Ok(())
 }
 
-const ANSWERS: [(&str, u8, &str, &str); 12] = [
+const ANSWERS: [(&str, u8, &str, &str); 20] = [
     ("", 1, "falsified\n", ""),
     (
         "fof(a,axiom,p&~p).\n",
@@ -144,6 +146,54 @@ const ANSWERS: [(&str, u8, &str, &str); 12] = [
         "(; proved ;)\n(; picks: ;)\n",
         "",
     ),
+    (
+        "fof(a,axiom,p(f(a),b)).\nfof(c,conjecture,q).\n",
+        1,
+        "falsified\np(f(a),b) = true\nq = false\n",
+        "",
+    ),
+    (
+        "tff(p,type,p: !>[A: $tType]: $o).\ntff(c,conjecture,p($i)).\n",
+        1,
+        "falsified\np($i) = false\n",
+        "",
+    ),
+    (
+        "tff(s,type,set: $tType > $tType).\ntff(e,type,empty: !>[A: $tType]: set(A)).\ntff(m,type,mem: !>[A: $tType]: ((A * set(A)) > $o)).\ntff(a,type,'A': $i).\ntff(c,conjecture,mem($i,'A',empty($i))).\n",
+        1,
+        "falsified\nmem($i,'A',empty($i)) = false\n",
+        "",
+    ),
+    (
+        "fof(c,conjecture,! [X] : (p(X) => p(X))).\n",
+        0,
+        "(; proved ;)\n(; picks: 0,0 ;)\n",
+        "",
+    ),
+    (
+        "fof(a,axiom,! [X] : p(X)).\nfof(c,conjecture,p(a)).\n",
+        0,
+        "(; proved ;)\n(; picks: 0,0 ;)\n",
+        "",
+    ),
+    (
+        "fof(c,conjecture,! [X] : p(X)).\n",
+        2,
+        "unknown: saturated\npicks: 0\n",
+        "",
+    ),
+    (
+        "fof(a,axiom,! [X] : p(X)).\nfof(c,conjecture,q).\n",
+        2,
+        "unknown: saturated\npicks: 0\n",
+        "",
+    ),
+    (
+        "fof(a,axiom,! [X] : (p(X) => p(f(X)))).\nfof(c,conjecture,q).\n",
+        2,
+        "unknown: saturated\npicks: 0,0\n",
+        "",
+    ),
 ];
 
 #[test]
@@ -151,7 +201,7 @@ fn answers_problems(rt: HostRuntime) -> Result<(), Fail> {
     expect_all(&rt, rt.alloc(), ANSWERS.as_slice())
 }
 
-const REFUSALS: [(&str, u8, &str, &str); 24] = [
+const REFUSALS: [(&str, u8, &str, &str); 22] = [
     (
         "fof(c,conjecture,p=>p).\nfof(d,conjecture,q).\n",
         3,
@@ -256,22 +306,15 @@ const REFUSALS: [(&str, u8, &str, &str); 24] = [
         "refused: mismatch at -:0, wanted $o, got $i\n",
     ),
     ("include('x.ax').\n", 3, "", "refused: missing file x.ax\n"),
-    (
-        "fof(c,conjecture,! [X] : p(X)).\n",
-        3,
-        "",
-        "refused: not built\n",
-    ),
     ("fof(c,conjecture,a = a).\n", 3, "", "refused: not built\n"),
-    ("fof(c,conjecture,p(a)).\n", 3, "", "refused: not built\n"),
     (
-        "fof(a,axiom,p(a)).\nfof(c,conjecture,q).\n",
+        "fof(c,conjecture,! [X] : X = X).\n",
         3,
         "",
         "refused: not built\n",
     ),
     (
-        "tff(p,type,p: !>[A: $tType]: $o).\ntff(c,conjecture,p($i)).\n",
+        "fof(a,axiom,~(p & a != b)).\nfof(c,conjecture,q).\n",
         3,
         "",
         "refused: not built\n",

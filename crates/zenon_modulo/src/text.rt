@@ -1,11 +1,14 @@
 ghost use Rattle.std.specs.Prelude.{◌≡◌, ◌++◌, ◌+◌, OnOk, IfOk, codes, decimal, map, if◌then◌else◌};
-ghost use Rattle.search.specs.View.{tree_of, cause_of, valued_tree};
+ghost use Rattle.branch.specs.State.{tree};
+ghost use Rattle.branch.specs.Causes.{cause_of};
+ghost use Rattle.valuation.specs.View.{valued_tree};
 ghost use Rattle.zenon_modulo.specs.Text as spec;
 
 use crate::names::push_atom;
 use itoa::Buffer;
-use search::{Closed, Open, Tableau, Valued, Why};
+use search::{Closed, Open, Tableau, Why};
 use std::alloc::{AllocError, Global};
+use valuation::Valued;
 use zm_logic::Symbol;
 
 // A number with what stands before it.
@@ -30,7 +33,7 @@ fn push_picks(text: &mut Vec<u8>, picks: &[usize]) -> Result<(), AllocError>
 
 /// What is written for a closed tableau.
 pub fn proved_text(alloc: Global, tableau: &Tableau<Closed>) -> Result<Vec<u8>, AllocError>
-    ensures { IfOk result (λ text. text.items ≡ spec.proved_text (tree_of tableau.now)) }
+    ensures { IfOk result (λ text. text.items ≡ spec.proved_text (tree tableau.now)) }
 {
     let picks = tableau.picks(alloc)?;
     let mut text = Vec::from_slice(alloc, b"(; proved ;)\n(; picks:")?;
@@ -39,19 +42,25 @@ pub fn proved_text(alloc: Global, tableau: &Tableau<Closed>) -> Result<Vec<u8>, 
     Ok(text)
 }
 
-fn cause_text(why: Why) -> &'static [u8]
-    ensures { result.now ≡ spec.cause_text (cause_of why) }
+fn cause_text(why: &Why) -> &'static [u8]
+    ensures { result.now ≡ spec.cause_text (cause_of why.now) }
 {
     match why {
         Why::Saturated => b"saturated",
         Why::Steps => b"steps",
         Why::BranchLength => b"branch length",
+        Why::Rewrites { .. } => b"rewrites",
+        Why::Deep { .. } => b"depth",
     }
 }
 
 /// What is written for a search that stopped.
-pub fn unknown_text(alloc: Global, why: Why, tableau: &Tableau<Open>) -> Result<Vec<u8>, AllocError>
-    ensures { IfOk result (λ text. text.items ≡ spec.unknown_text (cause_of why) (tree_of tableau.now)) }
+pub fn unknown_text(
+    alloc: Global,
+    why: &Why,
+    tableau: &Tableau<Open>,
+) -> Result<Vec<u8>, AllocError>
+    ensures { IfOk result (λ text. text.items ≡ spec.unknown_text (cause_of why.now) (tree tableau.now)) }
 {
     let picks = tableau.picks(alloc)?;
     let mut text = Vec::from_slice(alloc, b"unknown: ")?;

@@ -1,6 +1,6 @@
 ghost use Rattle.std.specs.Prelude.{◌≡◌, ◌≢◌, ◌≤◌, ◌+◌, ◌⊎◌, ℕ, [], All, map, string_bytes, OnOk, OnErr};
 ghost use Rattle.zm_base.specs.Outside.{Rose, ReadsAtMost, Takes};
-ghost use Rattle.search.specs.Tableau.{picks};
+ghost use Rattle.branch.specs.Tableau.{picks};
 ghost use Rattle.zenon_modulo.specs.Words.{Operand, IsMisuse};
 ghost use Rattle.zenon_modulo.specs.Outcome.{status, IfProved, IfFalsified, IfUnknown, IfSearched, IfRefused, IfUsage, IfRead, UnlessWriteFault};
 ghost use Rattle.zenon_modulo.specs.Input.{IsTaken, IsCut, input_limit};
@@ -116,8 +116,8 @@ pub fn run<S: Source, L: Library, K: Sink, E: Sink>(
     ensures status { result.status ≡ status result.outcome }
 
     // Proved: the problem that the operand spells has a closed tableau, and the premises with the negated conjecture a
-    // derivation in the sequent calculus. Falsified: the valuation makes the premises true and the conjecture false.
-    // Unknown: the search stopped for its cause.
+    // derivation in the sequent calculus. Falsified: the problem has no quantifier, and the valuation makes the premises true
+    // and the conjecture false. Unknown: the search stopped for its cause.
     ensures proved { IfProved result.outcome (λ tree. ForProblem (map string_bytes words.now) (S.left input.old) (L.files library.old) (λ steps p. IsProof steps p tree)) }
     ensures falsified { IfFalsified result.outcome (λ v tree. ForProblem (map string_bytes words.now) (S.left input.old) (L.files library.old) (λ steps p. IsCountermodel steps p v tree)) }
     ensures unknown { IfUnknown result.outcome (λ why tree. ForProblem (map string_bytes words.now) (S.left input.old) (L.files library.old) (λ steps p. IsUndecided steps p why tree)) }

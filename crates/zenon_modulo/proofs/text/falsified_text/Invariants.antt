@@ -1,5 +1,5 @@
 use Rattle.std.proofs.Common.{◌≡◌, ◌++◌, codes, take, map}
-use Rattle.search.specs.View.{valued_tree}
+use Rattle.valuation.specs.View.{valued_tree}
 use Rattle.zenon_modulo.specs.Text.{valuation_text}
 use Rattle.zenon_modulo.proofs.text.falsified_text.Given as goal
 

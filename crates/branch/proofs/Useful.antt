@@ -1,0 +1,144 @@
+-- Which raw offers are left: formulas stand on a branch as their ids do.
+use Rattle.std.proofs.Common.{ℕ, zero, suc, ◌≡◌, ◌+◌, ◌<◌, ◌≤◌, Bool, true, false, ◌&&◌, ◌||◌, not, cond, nat_eq, Option, List, [], ◌∷◌, ◌++◌, length, take, drop, get_or, map, filter, append-nil, refl, ap, sym, subst, ◌∙◌, inl, inr, arith}
+use Rattle.std.specs.List.{list_any}
+use Rattle.std.proofs.lemmas.Bool.Decides.{eqb_tells}
+use Rattle.std.proofs.lemmas.List.{take_more, drop_more}
+use Rattle.std.proofs.lemmas.List.Elements.{filter-append}
+use Rattle.zm_logic.specs.Tree.{Form}
+use Rattle.zm_logic.specs.Same.{same, has}
+use Rattle.zm_logic.proofs.Sames.{same-self, same-true}
+use Rattle.term_store.specs.Trees.{Tables, AreShared, HasForm, form_of}
+use Rattle.term_store.specs.declared.ids.FormId.{FormId}
+use Rattle.param_store.specs.RawOffers.{Raw}
+use Rattle.param_store.specs.View.{forms_of, lists_of, raw_of, HasForms, HasLists, HasRaw, HasRaws}
+use Rattle.param_store.specs.declared.offer.RawOffer.{RawOffer}
+use Rattle.branch.specs.declared.listed.Listed.{Listed}
+use Rattle.branch.specs.BranchOffers.{Kind}
+use Rattle.branch.specs.Offers.{Offer, has_all, has_some, normals, is_useful}
+use Rattle.branch.specs.Left.{unchanged, offer_at, offers_at}
+use Rattle.branch.specs.Listed.{IsListed, AreListed, listed_of}
+use Rattle.branch.proofs.Lasting.{listed_push}
+
+not_true : (b : Bool) → (b ≡ true → ⊥) → b ≡ false
+not_true true h = absurd (h refl)
+not_true false h = refl
+
+id_of : (f g : FormId) → f.0 ≡ g.0 → f ≡ g
+id_of f g e = ap (λ (n : ℕ). record { 0 = n }) e
+
+module _ (s : Tables) (shared : AreShared s) where
+  same_ids : (g f : FormId) → HasForm s g → HasForm s f → nat_eq g.0 f.0 ≡ same (form_of s g) (form_of s f)
+  same_ids g f k h = elim (eqb_tells g.0 f.0) [
+    | inl x ↦ x.0 ∙ sym (subst (λ i. same (form_of s g) (form_of s i) ≡ true) (id_of g f x.1) (same-self (form_of s g)))
+    | inr x ↦ x.0 ∙ sym (not_true _ (λ e. x.1 (ap (λ i. i.0) (shared.forms g f k h (same-true _ _ e)))))
+  ]
+
+  -- an id stands in a list as its tree in that of the trees
+  pub stands : (ids : List FormId) (f : FormId) → HasForms s ids → HasForm s f
+      → list_any (λ (g : FormId). nat_eq g.0 f.0) ids ≡ has (forms_of s ids) (form_of s f)
+  stands [] f h k = refl
+  stands (g ∷ ids) f h k = either (same_ids g f h.0 k) (stands ids f h.1 k)
+    where
+      either : {a b c d : Bool} → a ≡ b → c ≡ d → (a || c) ≡ (b || d)
+      either {a} {b} {c} {d} p q = ap (λ x. x || c) p ∙ ap (λ x. b || x) q
+
+module _ (s : Tables) (b : List Form) where
+  -- the formulas of a child from a place on, and the children from a place on
+  abbrev pub all_from : ℕ → List FormId → Bool
+  all_from i child = has_all b (forms_of s (drop i child))
+
+  abbrev pub some_from : ℕ → List (List FormId) → Bool
+  some_from i children = has_some b (lists_of s (drop i children))
+
+  all_step : (child : List FormId) (i : ℕ) (d : FormId) → i < length child
+      → all_from i child ≡ (has b (form_of s (get_or child i d)) && all_from (i + 1) child)
+  all_step child i d l = rw (drop_more child i d l)
+
+  pub all_yes : (child : List FormId) (i : ℕ) (d : FormId) → i < length child → has b (form_of s (get_or child i d)) ≡ true
+      → all_from i child ≡ all_from (i + 1) child
+  all_yes child i d l e = all_step child i d l ∙ ap (λ x. x && all_from (i + 1) child) e
+
+  pub all_no : (child : List FormId) (i : ℕ) (d : FormId) → i < length child → has b (form_of s (get_or child i d)) ≡ false → all_from i child ≡ false
+  all_no child i d l e = all_step child i d l ∙ ap (λ x. x && all_from (i + 1) child) e
+
+  pub all_end : (child : List FormId) (i : ℕ) → length child ≤ i → all_from i child ≡ true
+  all_end [] zero l = refl
+  all_end [] (suc i) l = refl
+  all_end (x ∷ xs) zero l = absurd (omega arith)
+  all_end (x ∷ xs) (suc i) l = all_end xs i (omega arith)
+
+  some_step : (children : List (List FormId)) (i : ℕ) (d : List FormId) → i < length children
+      → some_from i children ≡ (has_all b (forms_of s (get_or children i d)) || some_from (i + 1) children)
+  some_step children i d l = rw (drop_more children i d l)
+
+  pub some_yes : (children : List (List FormId)) (i : ℕ) (d : List FormId) → i < length children → has_all b (forms_of s (get_or children i d)) ≡ true
+      → some_from i children ≡ true
+  some_yes children i d l e = some_step children i d l ∙ ap (λ x. x || some_from (i + 1) children) e
+
+  pub some_no : (children : List (List FormId)) (i : ℕ) (d : List FormId) → i < length children → has_all b (forms_of s (get_or children i d)) ≡ false
+      → some_from i children ≡ some_from (i + 1) children
+  some_no children i d l e = some_step children i d l ∙ ap (λ x. x || some_from (i + 1) children) e
+
+  pub some_end : (children : List (List FormId)) (i : ℕ) → length children ≤ i → some_from i children ≡ false
+  some_end [] zero l = refl
+  some_end [] (suc i) l = refl
+  some_end (x ∷ xs) zero l = absurd (omega arith)
+  some_end (x ∷ xs) (suc i) l = some_end xs i (omega arith)
+
+-- one raw offer is left, or none
+normals_are : (rs : List (List Form)) → normals (unchanged rs) ≡ rs
+normals_are [] = refl
+normals_are (r ∷ rs) = ap (λ cs. r ∷ cs) (normals_are rs)
+
+module _ (b : List Form) (k : Kind) (j : ℕ) (i : Option ℕ) where
+  useful_is : (r : Raw) → is_useful b (offer_at k j i r) ≡ not (has_some b r.children)
+  useful_is r = ap (λ cs. not (has_some b cs)) (normals_are r.children)
+
+  one_left : (r : Raw) → has_some b r.children ≡ false → offers_at b k j i (r ∷ []) ≡ offer_at k j i r ∷ []
+  one_left r e = ap (λ x. cond x (offer_at k j i r ∷ []) []) (useful_is r ∙ ap not e)
+
+  one_left_out : (r : Raw) → has_some b r.children ≡ true → offers_at b k j i (r ∷ []) ≡ []
+  one_left_out r e = ap (λ x. cond x (offer_at k j i r ∷ []) []) (useful_is r ∙ ap not e)
+
+  -- it is listed, or not
+  module _ (s : Tables) (old : List Listed) where
+    pub left_out : (r : Raw) → has_some b r.children ≡ true → (os : List Offer) → AreListed s os old → AreListed s (os ++ offers_at b k j i (r ∷ [])) old
+    left_out r e os h = subst (λ xs. AreListed s xs old) (sym (ap (λ x. os ++ x) (one_left_out r e) ∙ append-nil os)) h
+
+    pub listed_one : (r : Raw) → has_some b r.children ≡ false → (new : List Listed) (l : Listed) → new ≡ old ++ l ∷ [] → IsListed s l → listed_of s l ≡ offer_at k j i r
+        → (os : List Offer) → AreListed s os old → AreListed s (os ++ offers_at b k j i (r ∷ [])) new
+    listed_one r e new l q m t os h =
+        subst (λ xs. AreListed s xs new) (sym (ap (λ x. os ++ x) (one_left r e)))
+        (subst (AreListed s (os ++ offer_at k j i r ∷ [])) (sym q) (listed_push s os (offer_at k j i r) old l h m t))
+
+  -- raw offers up to a place, and one more
+  map_both : {X Y : Type 0} (f : X → Y) (xs ys : List X) → map f (xs ++ ys) ≡ map f xs ++ map f ys
+  map_both f [] ys = refl
+  map_both f (x ∷ xs) ys = ap (λ zs. f x ∷ zs) (map_both f xs ys)
+
+  offers_both : (rs qs : List Raw) → offers_at b k j i (rs ++ qs) ≡ offers_at b k j i rs ++ offers_at b k j i qs
+  offers_both rs qs = ap (filter (is_useful b)) (map_both (offer_at k j i) rs qs) ∙ filter-append (is_useful b) (map (offer_at k j i) rs) (map (offer_at k j i) qs)
+
+  pub offers_more : (s : Tables) (raws : List RawOffer) (n : ℕ) (d : RawOffer) → n < length raws
+      → offers_at b k j i (map (raw_of s) (take (n + 1) raws))
+      ≡ offers_at b k j i (map (raw_of s) (take n raws)) ++ offers_at b k j i (raw_of s (get_or raws n d) ∷ [])
+  offers_more s raws n d l =
+      ap (λ xs. offers_at b k j i (map (raw_of s) xs)) (take_more raws n d l)
+      ∙ ap (offers_at b k j i) (map_both (raw_of s) (take n raws) (get_or raws n d ∷ []))
+      ∙ offers_both (map (raw_of s) (take n raws)) (raw_of s (get_or raws n d) ∷ [])
+
+-- what is the store's at a place
+pub form_at_place : (s : Tables) (ids : List FormId) (j : ℕ) (d : FormId) → j < length ids → HasForms s ids → HasForm s (get_or ids j d)
+form_at_place s [] j d l h = absurd (omega arith)
+form_at_place s (i ∷ is) zero d l h = h.0
+form_at_place s (i ∷ is) (suc j) d l h = form_at_place s is j d (omega arith) h.1
+
+pub forms_at_place : (s : Tables) (lists : List (List FormId)) (j : ℕ) (d : List FormId) → j < length lists → HasLists s lists → HasForms s (get_or lists j d)
+forms_at_place s [] j d l h = absurd (omega arith)
+forms_at_place s (i ∷ is) zero d l h = h.0
+forms_at_place s (i ∷ is) (suc j) d l h = forms_at_place s is j d (omega arith) h.1
+
+pub raw_at_place : (s : Tables) (raws : List RawOffer) (j : ℕ) (d : RawOffer) → j < length raws → HasRaws s raws → HasRaw s (get_or raws j d)
+raw_at_place s [] j d l h = absurd (omega arith)
+raw_at_place s (i ∷ is) zero d l h = h.0
+raw_at_place s (i ∷ is) (suc j) d l h = raw_at_place s is j d (omega arith) h.1

@@ -1,0 +1,5 @@
+use Rattle.branch.proofs.SharedIds.{forms_told}
+use Rattle.branch.proofs.closing.same_form.Goals as goal
+
+pub returns : goal.returns
+returns c = forms_told c.args.store.now c.shared.ensures c.args.left c.args.right c.requires.left c.requires.right

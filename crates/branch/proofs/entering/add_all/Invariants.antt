@@ -1,0 +1,10 @@
+use Rattle.std.proofs.Common.{◌≡◌, take}
+use Rattle.param_store.specs.View.{forms_of, HasForms}
+use Rattle.branch.specs.Branch as spec
+use Rattle.branch.proofs.entering.add_all.Given as goal
+
+abbrev pub invariant-loop-form : goal.invariant-loop-form
+invariant-loop-form l = record {
+  added : forms_of l.store l.forms ≡ spec.extend (forms_of l.store l.initial.forms) (forms_of l.store (take l.form-index l.more));
+  has : HasForms l.store l.forms;
+}

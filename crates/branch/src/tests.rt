@@ -1,0 +1,6 @@
+mod branches;
+mod closing;
+mod entering;
+mod forms;
+mod formulas;
+mod listing;

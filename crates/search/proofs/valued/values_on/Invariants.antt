@@ -1,8 +1,0 @@
-use Rattle.std.proofs.Common.{◌≡◌, map, take}
-use Rattle.zm_logic.specs.View.{form_tree}
-use Rattle.search.specs.Valuation.{value_on}
-use Rattle.search.specs.View.{valued_tree}
-use Rattle.search.proofs.valued.values_on.Given as goal
-
-abbrev pub invariant-loop-a : goal.invariant-loop-a
-invariant-loop-a l = map valued_tree l.all ≡ map (value_on (map form_tree l.branch)) (map form_tree (take l.a-index l.atoms))

@@ -1,0 +1,3 @@
+pub mod Valuation
+pub mod View
+pub mod Laws

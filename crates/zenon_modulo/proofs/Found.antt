@@ -1,0 +1,137 @@
+-- What follows from what a search found.
+use Rattle.std.proofs.Common.{ℕ, ◌≡◌, ◌≢◌, true, false, List, [], Some, Vec, refl, sym, ap, ap₂, subst, ◌∙◌}
+use Rattle.std.specs.declared.alloc.Global.{Global}
+use Rattle.zm_logic.specs.Tree.{Form, Symbol, Problem}
+use Rattle.zm_logic.specs.Problem.{IsTypedProblem}
+use Rattle.zm_logic.specs.Truth.{Valued, Falsifies, refuted}
+use Rattle.param_store.specs.View.{forms_of}
+use Rattle.branch.specs.Branch.{extend}
+use Rattle.branch.specs.Setting.{Setting}
+use Rattle.branch.specs.Tableau.{Node, Leaf, IsTableau, is_finished, current_leaf}
+use Rattle.branch.specs.Stopping.{IsRoot, Cause, Stopped}
+use Rattle.branch.specs.State as state
+use Rattle.branch.specs.State.{State, tree}
+use Rattle.branch.specs.Stepped.{AtLeaf}
+use Rattle.branch.specs.Causes.{cause_of}
+use Rattle.branch.specs.declared.why.Why.{Why}
+use Rattle.branch.proofs.Lawful.{closed_tableaux_prove_problems, open_tableaux_have_a_current_leaf}
+use Rattle.search.specs.Searched.{IsGrownOf, IsFound}
+use Rattle.search.specs.declared.run.Searched.{Searched}
+use Rattle.search.specs.declared.run.Searched.TheVariants.{Closed, Open}
+use Rattle.search.proofs.Complete.{enough_steps_saturate}
+use Rattle.search.proofs.Growing.{grown_root}
+use Rattle.valuation.specs.Valuation.{valuation}
+use Rattle.valuation.proofs.Falsified.{saturated_tableaux_falsify}
+use Rattle.zenon_modulo.specs.declared.outcome.Outcome.{Outcome}
+use Rattle.zenon_modulo.specs.declared.outcome.Outcome.TheVariants.{Unknown}
+use Rattle.zenon_modulo.specs.Fragments.{is_built, is_quantifier_free}
+use Rattle.zenon_modulo.specs.Answer.{setting, root, IsCountermodel, IsUndecided}
+use Rattle.zenon_modulo.specs.Report.{IsClosedFor, IsStoppedFor, IsFoundFor, IsReport}
+use Rattle.zenon_modulo.specs.Text.{unknown_text}
+use Rattle.zenon_modulo.proofs.PlainProblems.{plain_refuted}
+
+abbrev setting_of : List Symbol → ℕ → Setting
+setting_of symbols rewrites = record { symbols = symbols; rules = []; rewrites = rewrites; prunes = false }
+
+leaf_is : (x y : Leaf) → Some x ≡ Some y → x ≡ y
+leaf_is x y e = cc
+
+-- a tree that is stopped has an Open leaf
+stays_open : (s : Setting) (given : List Form) (budget : ℕ) (n : Node) (why : Cause) → Stopped s given budget n why → is_finished n ≡ false
+stays_open s given budget n why (Stopped.inside h) = (open_tableaux_have_a_current_leaf h.root n).1 (h.leaf, h.is_current)
+stays_open s given budget n why (Stopped.at_root before fault h e) = refl
+
+module _ (p : Problem) (steps : ℕ) where
+  module _ (t : State) (g : IsGrownOf p steps 10000 t) where
+    same_setting : state.setting t ≡ setting p
+    same_setting = ap₂ setting_of g.symbols g.limit
+
+    same_root : state.root t ≡ root p
+    same_root = ap (λ ids. extend [] (forms_of t.store ids)) g.kept.begun.normal ∙ ap (extend []) g.given
+
+    grown_tableau : IsTableau (setting p) (root p) (tree t)
+    grown_tableau =
+        subst (λ b. IsTableau (setting p) b (tree t)) same_root
+        (subst (λ s. IsTableau s (state.root t) (tree t)) same_setting g.kept.tree.tableau)
+
+    is_root : IsRoot (setting p) (refuted p) (root p)
+    is_root =
+        subst (λ b. IsRoot (setting p) (refuted p) b) same_root
+        (subst (λ s. IsRoot s (refuted p) (state.root t)) same_setting (grown_root p steps 10000 t g))
+
+  -- a search of a typed problem that is built
+  module _ (typed : IsTypedProblem p) (built : is_built p ≡ true) where
+    closed_for : (t : State) → IsGrownOf p steps 10000 t → is_finished (tree t) ≡ true → IsClosedFor steps p (tree t)
+    closed_for t g c = record {
+      proof = record {
+        built = built;
+        tableau = grown_tableau t g;
+        closed = c;
+        within = g.within;
+        derivation = closed_tableaux_prove_problems p (setting p) (root p) (tree t) typed refl refl (is_root t g) (grown_tableau t g) c;
+      };
+      picked = g.picked;
+    }
+
+    stopped_for : (t : State) (why : Cause) → IsGrownOf p steps 10000 t → Stopped (state.setting t) (refuted p) steps (tree t) why
+        → IsStoppedFor steps p why t
+    stopped_for t why g s = record {
+      typed = typed;
+      built = built;
+      grown = g;
+      stopped = subst (λ x. Stopped x (refuted p) steps (tree t) why) (same_setting t g) s;
+    }
+
+    pub found_for : (searched : Searched) → IsFound p steps 10000 searched → IsFoundFor steps p searched
+    found_for (Closed t) f = closed_for t f.0 f.1
+    found_for (Open t why) f = stopped_for t (cause_of why) f.0 f.1
+
+  -- a stopped search
+  module _ (t : State) (why : Cause) (s : IsStoppedFor steps p why t) where
+    pub stopped_open : is_finished (tree t) ≡ false
+    stopped_open = stays_open (setting p) (refuted p) steps (tree t) why s.stopped
+
+    undecided : (is_quantifier_free p ≡ true → why ≢ Cause.saturated) → IsUndecided steps p why (tree t)
+    undecided u = record {
+      built = s.built;
+      tableau = grown_tableau t s.grown;
+      within = s.grown.within;
+      stopped = s.stopped;
+      unsaturated = u;
+      beyond = λ q w n.
+          u q (enough_steps_saturate p (setting p) (root p) steps (tree t) why s.typed (plain_refuted p q) refl (is_root t s.grown)
+          (grown_tableau t s.grown) w n s.stopped);
+    }
+
+  unknown_report : (t : State) (why : Why) (text : List ℕ) → IsStoppedFor steps p (cause_of why) t
+      → (is_quantifier_free p ≡ true → cause_of why ≢ Cause.saturated) → text ≡ unknown_text (cause_of why) (tree t)
+      → IsReport steps p (Unknown why t) text
+  unknown_report t why text s u e = record { reports = undecided t (cause_of why) s u; picked = s.grown.picked; written = e }
+
+  pub unknown_reported : (t : State) (why : Why) (o : Outcome) (text shown : Vec ℕ Global) → IsStoppedFor steps p (cause_of why) t
+      → (is_quantifier_free p ≡ true → cause_of why ≢ Cause.saturated) → shown.items ≡ unknown_text (cause_of why) (tree t)
+      → o ≡ Unknown why t → text ≡ shown → IsReport steps p o text.items
+  unknown_reported t why o text shown s u e same is =
+      subst (λ x. IsReport steps p x text.items) (sym same) (unknown_report t why text.items s u (ap items is ∙ e))
+    where
+      items : Vec ℕ Global → List ℕ
+      items v = v.items
+
+  pub countermodel : (t : State) (v : List Valued) → IsStoppedFor steps p Cause.saturated t → is_quantifier_free p ≡ true
+      → AtLeaf t (λ leaf. v ≡ valuation leaf.branch p) → IsCountermodel steps p v (tree t)
+  countermodel t v s q a =
+      let f = saturated_tableaux_falsify p (setting p) (root p) steps (tree t) s.typed (plain_refuted p q) refl (is_root t s.grown)
+      (grown_tableau t s.grown) s.stopped in
+      let e : current_leaf (root p) (tree t) ≡ Some a.leaf = ap (λ b. current_leaf b (tree t)) (sym (same_root t s.grown)) ∙ a.is_current in
+      let same : a.leaf ≡ f.leaf = leaf_is a.leaf f.leaf (sym e ∙ f.is_current) in
+      record {
+        built = s.built;
+        quantifier_free = q;
+        tableau = grown_tableau t s.grown;
+        within = s.grown.within;
+        stopped = s.stopped;
+        leaf = a.leaf;
+        is_current = e;
+        listed = a.holds;
+        falsifies = subst (λ w. Falsifies w p) (sym (a.holds ∙ ap (λ l. valuation l.branch p) same)) f.falsifies;
+      }
