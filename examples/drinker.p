@@ -1,3 +1,3 @@
-% Quantifiers are read and typed; the search for them is not built yet.
+% There is someone of whom it holds that, if they drink, everyone drinks.
 fof(drinker,conjecture,
     ? [X] : (drinks(X) => ! [Y] : drinks(Y))).
