@@ -13,7 +13,7 @@ use Rattle.unify.specs.Answer.{solved_binding}
 use Rattle.unify.proofs.Closed.{EachType, EachTerm, Sides, RightSides, of_head_type, of_head_term}
 use Rattle.equality_rules.specs.Instances.{in_order}
 use Rattle.branch.proofs.Lists.{map-source, reverse-has}
-use Rattle.branch.proofs.Inverted.{well_typed_equality, well_typed_left, well_typed_right, well_typed_atom}
+use Rattle.zm_logic.proofs.Inverted.{well_typed_equality, well_typed_left, well_typed_right, well_typed_atom}
 
 -- each binding's metavariable and right side have the property
 module _ (P : Ty → Type 0) (Q : Term → Type 0) where

@@ -1,6 +1,7 @@
 -- What stands on an extended branch, and where the closing pair of a branch comes from.
 use Rattle.std.proofs.Common.{◌≡◌, Bool, true, false, cond, refl, subst, List, [], ◌∷◌, ◌++◌, ◌⊎◌, inl, inr, Contains, Some, append_assoc}
 use Rattle.std.proofs.lemmas.List.Elements.{Contains-append_left, Contains-append_right, Contains-push, Contains-push_cases}
+use Rattle.std.proofs.lemmas.Option.{same_Some}
 use Rattle.zm_logic.proofs.Sames.{Contains-here, Contains-there, Contains-cases, Contains-none, has-contains}
 use Rattle.zm_logic.specs.Tree.{Form}
 use Rattle.zm_logic.specs.Same.{has}
@@ -53,9 +54,6 @@ extend-has b (f ∷ fs) x h =
 abbrev pub Closes : List Form → Closing → Type 0
 Closes b c = ((f : Form) × Contains b f × (closes_alone f ≡ true) × (alone f ≡ c)) ⊎ ((g f : Form) × Contains b g × Contains b f × (closing_of g f ≡ Some c))
 
-pub some_is : {A : Type 0} (x y : A) → Some x ≡ Some y → x ≡ y
-some_is x y e = cc
-
 pub with-source : (gs : List Form) (f : Form) (c : Closing) → closing_with gs f ≡ Some c → (g : Form) × Contains gs g × (closing_of g f ≡ Some c)
 with-source [] f c e = cc
 with-source (g ∷ gs) f c e =
@@ -67,7 +65,7 @@ with-source (g ∷ gs) f c e =
 pub at-source : (gs fs : List Form) (f : Form) (c : Closing) → closing_at gs f ≡ Some c → Closes (gs ++ f ∷ fs) c
 at-source gs fs f c e =
     elim (cond-cases (closes_alone f) (Some (alone f)) (closing_with gs f) (Some c) e) [
-      | inl a ↦ inl (f, Contains-append_right gs (f ∷ fs) f (Contains-here f fs), a.0, some_is (alone f) c a.1)
+      | inl a ↦ inl (f, Contains-append_right gs (f ∷ fs) f (Contains-here f fs), a.0, same_Some (alone f) c a.1)
       | inr a ↦ let s = with-source gs f c a.1 in
           inr (s.0, f, Contains-append_left gs (f ∷ fs) s.0 s.1, Contains-append_right gs (f ∷ fs) f (Contains-here f fs), s.2)
     ]

@@ -15,7 +15,7 @@ use Rattle.branch.specs.Sound.{IsSound}
 use Rattle.branch.specs.BranchOffers.{Kind, opened_kind}
 use Rattle.branch.specs.Offered.{Solves, Offered}
 use Rattle.branch.specs.Introduced.{Above, part_of, IsIntroduced}
-use Rattle.branch.proofs.Inverted.{well_typed_negation, first_part, second_part, well_typed_atom, well_typed_left, well_typed_right, well_typed_equality}
+use Rattle.zm_logic.proofs.Inverted.{well_typed_negation, first_part, second_part, well_typed_atom, well_typed_left, well_typed_right, well_typed_equality}
 use Rattle.branch.proofs.Arguments.{argument_types_are}
 use Rattle.branch.proofs.Kept.{CarriesTypes}
 use Rattle.branch.proofs.Bound.{EachInBinding, PutsType, forms_each, terms_each, forms_put, terms_put}

@@ -1,14 +1,16 @@
 -- A branch that is closed has a derivation from what closes it.
 use Rattle.std.proofs.Common.{◌≡◌, Bool, true, false, refl, sym, subst, List, [], ◌∷◌, ◌⊎◌, inl, inr, Contains, Some}
 use Rattle.std.specs.Option.{option_to_list}
+use Rattle.std.proofs.lemmas.Option.{same_Some}
+use Rattle.std.proofs.lemmas.Bool.{and_parts}
 use Rattle.zm_logic.specs.Tree.{Term, Form}
 use Rattle.zm_logic.specs.Calculus.{Derives}
 use Rattle.zm_logic.specs.Same.{same}
 use Rattle.branch.specs.Setting.{Setting}
 use Rattle.branch.specs.Branch.{Closing, closes_alone, closing_of, is_swapped, pair_of}
-use Rattle.zm_logic.proofs.Sames.{Contains-here, Contains-there, Contains-cases, same-true, same_type-true, same_term-true, both_true, only}
+use Rattle.zm_logic.proofs.Sames.{Contains-here, Contains-there, Contains-cases, same-true, same_type-true, same_term-true, only}
 use Rattle.branch.proofs.Lists.{cond-cases}
-use Rattle.branch.proofs.Branches.{Closes, some_is}
+use Rattle.branch.proofs.Branches.{Closes}
 
 abbrev pub IsWithin : List Form → List Form → Type 0
 IsWithin xs ys = (f : Form) → Contains xs f → Contains ys f
@@ -23,7 +25,7 @@ alone-derives s gamma f h e = cc
 
 pub swapped-derives : (s : Setting) (gamma : List Form) (g f : Form) → Contains gamma g → Contains gamma f → is_swapped g f ≡ true → Derives s.symbols s.rules gamma
 swapped-derives s gamma (Form.equal t a b) (Form.negation (Form.equal u c d)) hg hf e =
-    let p = both_true _ _ e in let q = both_true _ _ p.1 in
+    let p = and_parts _ _ e in let q = and_parts _ _ p.1 in
     let eq : Form.negation (Form.equal u c d) ≡ Form.negation (Form.equal t b a) =
     let i = same_type-true t u p.0 in let j = same_term-true a d q.0 in let k = same_term-true b c q.1 in cc in
     let P : Form → Type 0 = λ x. Contains gamma x in
@@ -50,7 +52,7 @@ pair-derives s gamma g f c hg hf e =
 pub in_pair : (p q : Form) (v : Bool) (c : Closing) (x : Form) → Some (pair_of p q v) ≡ Some c → ((p ≡ x) ⊎ (q ≡ x)) → Contains (c.first ∷ option_to_list c.second) x
 in_pair p q v c x e i =
     let P : Closing → Type 0 = λ d. Contains (d.first ∷ option_to_list d.second) x in
-    subst P (some_is (pair_of p q v) c e)
+    subst P (same_Some (pair_of p q v) c e)
     (elim i [ inl j ↦ rw j (Contains-here x (q ∷ [])) | inr j ↦ rw j (Contains-there p (x ∷ []) x (Contains-here x [])) ])
 
 pub other : {A B : Type 0} → A ⊎ B → B ⊎ A
@@ -85,7 +87,7 @@ pub of_pair : (b : List Form) (p q : Form) (v : Bool) (c : Closing) → Contains
 of_pair b p q v c hp hq e x i =
     let P : Closing → Type 0 = λ d. Contains (d.first ∷ option_to_list d.second) x in
     let Q : Form → Type 0 = λ y. Contains b y in
-    elim (Contains-cases p (q ∷ []) x (subst P (sym (some_is (pair_of p q v) c e)) i)) [
+    elim (Contains-cases p (q ∷ []) x (subst P (sym (same_Some (pair_of p q v) c e)) i)) [
       | inl j ↦ subst Q j hp
       | inr j ↦ subst Q (only q x j) hq
     ]

@@ -1,5 +1,6 @@
 -- What is known of the current leaf of a tableau that is kept: its offers can be listed, and there is one list of them.
 use Rattle.std.proofs.Common.{◌≡◌, refl, ap, sym, subst, ◌∙◌, List, [], ◌∷◌, All, Some}
+use Rattle.std.proofs.lemmas.Option.{same_Some}
 use Rattle.zm_logic.specs.Tree.{Form}
 use Rattle.param_store.specs.View.{forms_of}
 use Rattle.branch.specs.declared.tableau.Current.{Current}
@@ -23,9 +24,6 @@ use Rattle.branch.proofs.NoRules.{itself, sound_without_rules}
 use Rattle.branch.proofs.Root.{root_given}
 use Rattle.branch.proofs.Stopped.{at_current}
 use Rattle.branch.specs.Tableau as tableau
-
-leaf_is : (x y : Leaf) → Some x ≡ Some y → x ≡ y
-leaf_is x y e = cc
 
 all_themselves : (s : Setting) → s.rules ≡ [] → (fs : List Form) → MakesAll (Normalizes s) fs (Made.made fs)
 all_themselves s e [] = MakesAll.none
@@ -72,4 +70,4 @@ module _ (t : State) (b : IsBegun t) where
 
   -- the current leaf is the one that is noted
   pub leaf_noted : (c : Current) → IsCurrent t c → (leaf : Leaf) → current_leaf (root t) (tree t) ≡ Some leaf → leaf ≡ leaf_at t c
-  leaf_noted c h leaf e = leaf_is leaf (leaf_at t c) (sym e ∙ h.leaf)
+  leaf_noted c h leaf e = same_Some leaf (leaf_at t c) (sym e ∙ h.leaf)

@@ -1,11 +1,13 @@
 -- A lawful tableau without an Open leaf gives a derivation.
 use Rattle.std.proofs.Common.{◌≡◌, Bool, true, false, ◌&&◌, ◌||◌, cond, not, refl, ap, sym, subst, List, [], ◌∷◌, ◌++◌, inl, inr, Contains, Option, None, Some}
 use Rattle.std.proofs.lemmas.List.Elements.{Contains-append_left, Contains-append_right, Contains-append_cases}
+use Rattle.std.proofs.lemmas.Option.{same_Some}
+use Rattle.std.proofs.lemmas.Bool.{not-true, and_parts}
 use Rattle.zm_logic.specs.Tree.{Form}
 use Rattle.zm_logic.specs.Parameter.{Never, HasNoParameter}
 use Rattle.zm_logic.specs.Typing.{WellTyped}
 use Rattle.zm_logic.proofs.Each.{each}
-use Rattle.zm_logic.proofs.Sames.{Contains-here, Contains-there, Contains-none, both_true}
+use Rattle.zm_logic.proofs.Sames.{Contains-here, Contains-there, Contains-none}
 use Rattle.branch.specs.Branch.{extend}
 use Rattle.branch.specs.Setting.{Setting}
 use Rattle.branch.specs.Sound.{IsSound}
@@ -15,14 +17,14 @@ use Rattle.branch.specs.Tableau.{Node, Children, given, is_finished, are_finishe
 use Rattle.branch.specs.Offered.{Offered}
 use Rattle.branch.specs.Introduced.{Above, IsIntroduced}
 use Rattle.branch.proofs.Lists.{cond-cases}
-use Rattle.branch.proofs.Branches.{closing-source, some_is}
+use Rattle.branch.proofs.Branches.{closing-source}
 use Rattle.branch.proofs.Closings.{IsWithin, closed_derives, closed_within}
 use Rattle.branch.proofs.Made.{AreMade, raws, offer_made}
 use Rattle.branch.proofs.Sequent.{IsBranch}
 use Rattle.branch.proofs.Children.{offered_typed}
 use Rattle.branch.proofs.Grows.{Keeps, child_keeps, after_keeps, all_in, child_branch, enter_has}
 use Rattle.branch.proofs.Rules.{Proves, ProvesAll, offered_derives, acted_within, useful_is_new, converted}
-use Rattle.branch.proofs.Uses.{kept_uses, not_true, beyond, idle_within}
+use Rattle.branch.proofs.Uses.{kept_uses, beyond, idle_within}
 
 pub entered : (t f : List Form) (n : Node) → is_skipped n ≡ false → enter_child t f n ≡ enter t f
 entered t f n e = ap (λ v. cond v t (enter t f)) e
@@ -85,17 +87,17 @@ module _ (s : Setting) (sound : IsSound s) where
         → (used : List Form) → idle_uses b ns ≡ Some used → IsWithin used gamma → Proves s gamma
     derives_idle Children.none table u above b sequent gamma is keeps offered made sub i l e v used q w = absurd (let p = q in cc)
     derives_idle (Children.more r f n ns) table u above b sequent gamma is keeps {k} {a} {cs} offered made sub i l e v used q w =
-        let p = both_true (is_finished n) (are_finished ns) e in
+        let p = and_parts (is_finished n) (are_finished ns) e in
         let x = uses (extend b f) n in
         elim (cond-cases (is_idle b f n x) (Some x) (idle_uses b ns) (Some used) q) [
           | inl j ↦
               let P : List Form → Type 0 = λ y. IsWithin y gamma in
               let Q : List Form → Type 0 = λ y. IsLawful s y (extend b f) n in
-              let z = both_true (is_finished n) (not (is_skipped n) && is_apart (fresh b f) x) j.0 in
-              let skip = not_true (is_skipped n) (both_true (not (is_skipped n)) (is_apart (fresh b f) x) z.1).0 in
+              let z = and_parts (is_finished n) (not (is_skipped n) && is_apart (fresh b f) x) j.0 in
+              let skip = not-true (is_skipped n) (and_parts (not (is_skipped n)) (is_apart (fresh b f) x) z.1).0 in
               derives n (enter u f) (record { kind = k; act = a } ∷ above) (extend b f) (f ++ (r ++ sequent)) gamma
               (child_branch s sound table above b sequent is u keeps offered r f (sub r (Contains-here r (raws (given ns)))) made.0)
-              (subst Q (entered u f n skip) l.1) p.0 skip (subst P (sym (some_is x used j.1)) w)
+              (subst Q (entered u f n skip) l.1) p.0 skip (subst P (sym (same_Some x used j.1)) w)
               (λ y h. Contains-append_right f (r ++ sequent) y (Contains-append_right r sequent y (v y h)))
           | inr j ↦ derives_idle ns table (after (enter_child u f n) n) above b sequent gamma is (next_keeps table u f n keeps) offered made.1
               (λ y h. sub y (Contains-there r (raws (given ns)) y h)) (i || skips s.prunes b f n) l.2 p.1 v used j.1 w
@@ -108,7 +110,7 @@ module _ (s : Setting) (sound : IsSound s) where
         → ProvesAll s (raws (given ns)) gamma
     derives_each Children.none table u above b sequent gamma is keeps offered made sub l e q w v = tt
     derives_each (Children.more r f n ns) table u above b sequent gamma is keeps {k} {a} {cs} offered made sub l e q w v =
-        let p = both_true (is_finished n) (are_finished ns) e in
+        let p = and_parts (is_finished n) (are_finished ns) e in
         let x = uses (extend b f) n in
         elim (cond-cases (is_idle b f n x) (Some x) (idle_uses b ns) None q) [
           | inl j ↦ absurd (let z = j.1 in cc)
@@ -157,18 +159,18 @@ module _ (s : Setting) (sound : IsSound s) where
         → (i : Bool) → AreLawful s u b i ns → are_finished ns ≡ true → (used : List Form) → idle_uses b ns ≡ Some used → IsWithin used b
     idle_uses_within Children.none table u above b sequent is keeps offered made sub i l e used q = absurd (let p = q in cc)
     idle_uses_within (Children.more r f n ns) table u above b sequent is keeps {k} {a} {cs} offered made sub i l e used q =
-        let p = both_true (is_finished n) (are_finished ns) e in
+        let p = and_parts (is_finished n) (are_finished ns) e in
         let x = uses (extend b f) n in
         elim (cond-cases (is_idle b f n x) (Some x) (idle_uses b ns) (Some used) q) [
           | inl j ↦
               let P : List Form → Type 0 = λ y. IsWithin y b in
               let Q : List Form → Type 0 = λ y. IsLawful s y (extend b f) n in
-              let z = both_true (is_finished n) (not (is_skipped n) && is_apart (fresh b f) x) j.0 in
-              let y = both_true (not (is_skipped n)) (is_apart (fresh b f) x) z.1 in
-              subst P (some_is x used j.1) (idle_within b f x y.1
+              let z = and_parts (is_finished n) (not (is_skipped n) && is_apart (fresh b f) x) j.0 in
+              let y = and_parts (not (is_skipped n)) (is_apart (fresh b f) x) z.1 in
+              subst P (same_Some x used j.1) (idle_within b f x y.1
               (uses_within n (enter u f) (record { kind = k; act = a } ∷ above) (extend b f) (f ++ (r ++ sequent))
               (child_branch s sound table above b sequent is u keeps offered r f (sub r (Contains-here r (raws (given ns)))) made.0)
-              (subst Q (entered u f n (not_true (is_skipped n) y.0)) l.1) p.0))
+              (subst Q (entered u f n (not-true (is_skipped n) y.0)) l.1) p.0))
           | inr j ↦ idle_uses_within ns table (after (enter_child u f n) n) above b sequent is (next_keeps table u f n keeps) offered made.1
               (λ y h. sub y (Contains-there r (raws (given ns)) y h)) (i || skips s.prunes b f n) l.2 p.1 used j.1
         ]
@@ -178,7 +180,7 @@ module _ (s : Setting) (sound : IsSound s) where
         → (i : Bool) → AreLawful s u b i ns → are_finished ns ≡ true → IsWithin (uses_all b ns) b
     uses_all_within Children.none table u above b sequent is keeps offered made sub i l e = λ x h. absurd (Contains-none x h)
     uses_all_within (Children.more r f n ns) table u above b sequent is keeps {k} {a} {cs} offered made sub i l e =
-        let p = both_true (is_finished n) (are_finished ns) e in
+        let p = and_parts (is_finished n) (are_finished ns) e in
         let x = uses (extend b f) n in
         let Q : List Form → Type 0 = λ y. IsLawful s y (extend b f) n in
         λ y h. elim (Contains-append_cases (without (fresh b f) x) (uses_all b ns) y h) [

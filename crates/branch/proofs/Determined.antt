@@ -1,6 +1,7 @@
 -- A branch has one list of raw offers and one list of offers.
 use Rattle.std.proofs.Common.{◌≡◌, ℕ, ◌<◌, ◌≤◌, Bool, refl, ap, sym, subst, ◌∙◌, arith, List, [], ◌∷◌, ◌++◌, length, Contains, Option, None, Some, cond, filter, reverse, slice_get}
 use Rattle.std.proofs.lemmas.List.Elements.{All-contains, Contains-append_right}
+use Rattle.equality_rules.proofs.Unifying.{no_unifier, no_term_unifier, one_of_forms, one_of_terms}
 use Rattle.zm_logic.specs.Tree.{Term, Form, Side, differ}
 use Rattle.zm_logic.specs.Typing.{WellTyped}
 use Rattle.zm_logic.proofs.Sames.{Contains-here, Contains-there}
@@ -19,7 +20,7 @@ use Rattle.branch.specs.BranchOffers.{Kind, Entry, entries, own_entries, instanc
 use Rattle.branch.specs.Offers.{Child, Offer, offer_of, MakesForm, MakesChild, MakesOffer, is_useful, AreOffers, IsOfferAt}
 use Rattle.branch.specs.Introduced.{Above, HasFacts}
 use Rattle.branch.proofs.Kept.{made_is}
-use Rattle.branch.proofs.Unifiers.{IsOne, one_of_terms, one_of_forms, terms_apart, forms_apart}
+use Rattle.branch.proofs.Unifiers.{IsOne}
 use Rattle.branch.proofs.Offered.{IsOffered, raw_offered}
 use Rattle.branch.proofs.Sequent.{of_facts}
 use Rattle.branch.proofs.Children.{AllOf, AllIn, offered_typed}
@@ -83,7 +84,7 @@ module _ (s : Setting) (table : List Form) where
     one_single : (j : ℕ) {f : Form} {xs ys : List Entry} → SingleEntries s table equality j f xs → SingleEntries s table equality j f ys → xs ≡ ys
     one_single j (SingleEntries.inequation t u v h) (SingleEntries.inequation r x y k) =
         ap (λ z. z ++ entries Kind.equality (differ t u v) j None (cond equality (value_steps s.symbols (differ t u v) u v) []))
-        (one_binding_entries (UnifiesTerms u v) (TermsDiffer u v) (one_of_terms u v) (terms_apart u v) h k)
+        (one_binding_entries (UnifiesTerms u v) (TermsDiffer u v) (one_of_terms u v) (no_term_unifier u v) h k)
     one_single j (SingleEntries.inequation t u v h) (SingleEntries.other n) = absurd (n t u v refl)
     one_single j (SingleEntries.other n) (SingleEntries.inequation t u v h) = absurd (n t u v refl)
     one_single j (SingleEntries.other n) (SingleEntries.other m) = refl
@@ -94,7 +95,7 @@ module _ (s : Setting) (table : List Form) where
     one_pair j i g f (PairEntries.opposed o h x) (PairEntries.none e) = absurd (some_and_none (opposites g f) o e h)
     one_pair j i g f (PairEntries.opposed {xs = xs} o h x) (PairEntries.opposed {xs = ys} p k y) =
         let e = same_side (opposites g f) p o k h in
-        let z = one_binding_entries (UnifiesForms o.left o.right) (FormsDiffer o.left o.right) (one_of_forms o.left o.right) (forms_apart o.left o.right) x
+        let z = one_binding_entries (UnifiesForms o.left o.right) (FormsDiffer o.left o.right) (one_of_forms o.left o.right) (no_unifier o.left o.right) x
         (subst (λ q. BindingEntries s table (UnifiesForms q.left q.right) (FormsDiffer q.left q.right) j (Some i) ys) e y) in
         ap (λ l. l ++ entries Kind.equality f j (Some i) (cond equality (pair_steps s.symbols o.plain o.denied) [])) z
         ∙ ap (λ q. ys ++ entries Kind.equality f j (Some i) (cond equality (pair_steps s.symbols q.plain q.denied) [])) (sym e)

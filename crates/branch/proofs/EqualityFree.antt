@@ -1,6 +1,7 @@
 -- Formulas without an equality, and what a branch of them offers.
-use Rattle.std.proofs.Common.{ℕ, ◌≡◌, ◌+◌, Bool, true, false, ◌||◌, cond, refl, subst, ◌∙◌, List, [], ◌∷◌, ◌++◌, All, Contains, Option, None, Some, filter, slice_get, length}
+use Rattle.std.proofs.Common.{ℕ, ◌≡◌, ◌+◌, Bool, true, false, cond, refl, subst, ◌∙◌, List, [], ◌∷◌, ◌++◌, All, Contains, Option, None, Some, filter, slice_get, length}
 use Rattle.std.proofs.lemmas.List.Elements.{All-nil, All-cons, All-head, All-tail, All-append, All-push, All-filter, All-contains}
+use Rattle.std.proofs.lemmas.Bool.{or_parts, or_from}
 use Rattle.zm_logic.specs.Tree.{Form, Side, Connective, Quantifier, Opening}
 use Rattle.zm_logic.specs.Opening.{open_at}
 use Rattle.zm_logic.specs.Same.{has}
@@ -23,13 +24,6 @@ IsEqualityFree f = holds_equality f ≡ false
 -- each child's formulas are without an equality
 abbrev pub HaveEqualityFree : List (List Form) → Type 0
 HaveEqualityFree cs = All AreEqualityFree cs
-
-neither : (a b : Bool) → (a || b) ≡ false → (a ≡ false) × (b ≡ false)
-neither true b e = cc
-neither false b e = (refl, e)
-
-both_free : (a b : Bool) → a ≡ false → b ≡ false → (a || b) ≡ false
-both_free a b h k = rw (h, k) refl
 
 -- Lists.
 
@@ -73,7 +67,7 @@ is_none f h = refl
 pub has_none : (b : List Form) → AreEqualityFree b → has_equality b ≡ false
 has_none [] h = refl
 has_none (f ∷ fs) h =
-    both_free (is_equality f) (has_equality fs) (is_none f (All-head IsEqualityFree f fs h)) (has_none fs (All-tail IsEqualityFree f fs h))
+    or_from (is_equality f) (has_equality fs) (is_none f (All-head IsEqualityFree f fs h)) (has_none fs (All-tail IsEqualityFree f fs h))
 
 -- Parts of formulas.
 
@@ -122,26 +116,26 @@ two_children c d h k = All-cons AreEqualityFree c (d ∷ []) h (one_child d k)
 pub split_free : (f : Form) → IsEqualityFree f → HaveEqualityFree (split f)
 split_free (Form.negation (Form.negation a)) h = one_child (one a) (one_free a h)
 split_free (Form.binary Connective.conjunction a b) h =
-    let x = neither (holds_equality a) (holds_equality b) h in one_child (two a b) (two_free a b x.0 x.1)
+    let x = or_parts (holds_equality a) (holds_equality b) h in one_child (two a b) (two_free a b x.0 x.1)
 split_free (Form.negation (Form.binary Connective.disjunction a b)) h =
-    let x = neither (holds_equality a) (holds_equality b) h in
+    let x = or_parts (holds_equality a) (holds_equality b) h in
     one_child (two (Form.negation a) (Form.negation b)) (two_free (Form.negation a) (Form.negation b) x.0 x.1)
 split_free (Form.negation (Form.binary Connective.implication a b)) h =
-    let x = neither (holds_equality a) (holds_equality b) h in
+    let x = or_parts (holds_equality a) (holds_equality b) h in
     one_child (two a (Form.negation b)) (two_free a (Form.negation b) x.0 x.1)
 split_free (Form.binary Connective.disjunction a b) h =
-    let x = neither (holds_equality a) (holds_equality b) h in two_children (one a) (one b) (one_free a x.0) (one_free b x.1)
+    let x = or_parts (holds_equality a) (holds_equality b) h in two_children (one a) (one b) (one_free a x.0) (one_free b x.1)
 split_free (Form.negation (Form.binary Connective.conjunction a b)) h =
-    let x = neither (holds_equality a) (holds_equality b) h in
+    let x = or_parts (holds_equality a) (holds_equality b) h in
     two_children (one (Form.negation a)) (one (Form.negation b)) (one_free (Form.negation a) x.0) (one_free (Form.negation b) x.1)
 split_free (Form.binary Connective.implication a b) h =
-    let x = neither (holds_equality a) (holds_equality b) h in
+    let x = or_parts (holds_equality a) (holds_equality b) h in
     two_children (one (Form.negation a)) (one b) (one_free (Form.negation a) x.0) (one_free b x.1)
 split_free (Form.binary Connective.equivalence a b) h =
-    let x = neither (holds_equality a) (holds_equality b) h in
+    let x = or_parts (holds_equality a) (holds_equality b) h in
     two_children (two a b) (two (Form.negation a) (Form.negation b)) (two_free a b x.0 x.1) (two_free (Form.negation a) (Form.negation b) x.0 x.1)
 split_free (Form.negation (Form.binary Connective.equivalence a b)) h =
-    let x = neither (holds_equality a) (holds_equality b) h in
+    let x = or_parts (holds_equality a) (holds_equality b) h in
     two_children (two a (Form.negation b)) (two (Form.negation a) b) (two_free a (Form.negation b) x.0 x.1) (two_free (Form.negation a) b x.0 x.1)
 split_free f h = All-nil AreEqualityFree
 

@@ -14,11 +14,11 @@ use Rattle.equality_rules.specs.Offered.{sides}
 use Rattle.equality_rules.specs.Pairs.{Opposites, opposites, FormsDiffer, TermsDiffer}
 use Rattle.equality_rules.specs.Refused.{AreBounded, IsFirstDeepBinding}
 use Rattle.equality_rules.proofs.Answering.{sides_alike}
-use Rattle.equality_rules.proofs.Unifying.{alike_forms}
+use Rattle.equality_rules.proofs.Unifying.{alike_forms, no_unifier, no_term_unifier, one_of_forms, one_of_terms}
 use Rattle.branch.specs.Setting.{Setting}
 use Rattle.branch.specs.BranchOffers.{Kind, Entry, entries, own_entries, instance_entries, BindingEntries, SingleEntries, PairEntries, PairsWith, EntriesFrom}
 use Rattle.branch.proofs.Unchanged.{within_or_deep}
-use Rattle.branch.proofs.Unifiers.{IsOne, one_of_terms, one_of_forms, terms_apart, forms_apart}
+use Rattle.branch.proofs.Unifiers.{IsOne}
 
 -- the first of some bindings that is too deep
 record IsFirstDeep (made bs : List Binding) : Type 0 where
@@ -94,7 +94,7 @@ module _ (s : Setting) (table : List Form) where
   module _ (v : Bool) where
     pub single_there : (j : ℕ) (f : Form) → (xs : List Entry) × SingleEntries s table v j f xs
     single_there j (Form.negation (Form.equal t a b)) =
-        let x = binding_entries (UnifiesTerms a b) (TermsDiffer a b) (one_of_terms a b) (terms_apart a b) j None (terms_or_none a b) in (
+        let x = binding_entries (UnifiesTerms a b) (TermsDiffer a b) (one_of_terms a b) (no_term_unifier a b) j None (terms_or_none a b) in (
           x.0 ++ entries Kind.equality (differ t a b) j None (cond v (value_steps s.symbols (differ t a b) a b) []),
           SingleEntries.inequation t a b x.1,
         )
@@ -103,7 +103,7 @@ module _ (s : Setting) (table : List Form) where
     pair_by : (j i : ℕ) (g f : Form) (x : Option Opposites) → opposites g f ≡ x → (xs : List Entry) × PairEntries s table v j i g f xs
     pair_by j i g f None e = ([], PairEntries.none e)
     pair_by j i g f (Some o) e =
-        let x = binding_entries (UnifiesForms o.left o.right) (FormsDiffer o.left o.right) (one_of_forms o.left o.right) (forms_apart o.left o.right) j (Some i)
+        let x = binding_entries (UnifiesForms o.left o.right) (FormsDiffer o.left o.right) (one_of_forms o.left o.right) (no_unifier o.left o.right) j (Some i)
         (forms_or_none g f o e) in
         (x.0 ++ entries Kind.equality f j (Some i) (cond v (pair_steps s.symbols o.plain o.denied) []), PairEntries.opposed o e x.1)
 

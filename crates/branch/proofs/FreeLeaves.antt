@@ -2,6 +2,7 @@
 use Rattle.std.proofs.Common.{◌≡◌, ℕ, ◌+◌, Bool, true, false, ◌||◌, cond, refl, subst, ◌∙◌, List, [], Option, None, Some}
 use Rattle.std.specs.Option.{option_or}
 use Rattle.std.proofs.lemmas.List.Elements.{All-head, All-tail}
+use Rattle.std.proofs.lemmas.Option.{same_Some}
 use Rattle.zm_logic.specs.Tree.{Form}
 use Rattle.branch.specs.Branch.{extend}
 use Rattle.branch.specs.Setting.{Setting}
@@ -20,9 +21,6 @@ enter_child_free t f n h k = go (is_skipped n)
 
 abbrev IsFreeChild : Child → Type 0
 IsFreeChild c = AreEqualityFree c.normal
-
-leaf_is : (x y : Leaf) → Some x ≡ Some y → x ≡ y
-leaf_is x y e = cc
 
 module _ (s : Setting) (unruled : s.rules ≡ []) where
   mutual
@@ -50,7 +48,7 @@ module _ (s : Setting) (unruled : s.rules ≡ []) where
     current_free (Node.step k c a ns) t b d leaf h g l e =
         current_of_free ns t b (d + 1) leaf h g (taken_free s unruled t b k c a (given ns) l.1 g h) false l.2 e
     current_free (Node.closed c) t b d leaf h g l e = absurd (let q = e in cc)
-    current_free Node.opened t b d leaf h g l e = subst IsFreeLeaf (leaf_is (record { branch = b; above = d; table = t }) leaf e) (g, h)
+    current_free Node.opened t b d leaf h g l e = subst IsFreeLeaf (same_Some (record { branch = b; above = d; table = t }) leaf e) (g, h)
     current_free Node.skipped t b d leaf h g l e = absurd (let q = e in cc)
 
     current_of_free : (ns : Children) (t b : List Form) (d : ℕ) (leaf : Leaf) → AreEqualityFree t → AreEqualityFree b → HasFreeChildren (given ns)

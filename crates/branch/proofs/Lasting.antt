@@ -1,15 +1,13 @@
 -- Offers that are listed, and what a search is given, stay while the store grows.
-use Rattle.std.proofs.Common.{◌≡◌, Option, None, Some, List, [], ◌∷◌, ◌++◌, map, option_map, refl, ap, sym, ◌∙◌}
+use Rattle.std.proofs.Common.{◌≡◌, List, [], ◌∷◌, ◌++◌, map, refl, ap, sym, ◌∙◌}
+use Rattle.std.proofs.lemmas.List.{map_push}
 use Rattle.zm_logic.specs.Tree.{Form, Symbol}
-use Rattle.term_store.specs.Trees.{Tables, form_of, Extends}
-use Rattle.term_store.specs.Open.{part_of}
+use Rattle.term_store.specs.Trees.{Tables, Extends}
 use Rattle.term_store.specs.declared.ids.FormId.{FormId}
-use Rattle.term_store.specs.declared.opening.Opening.{Opening}
-use Rattle.term_store.proofs.Kept.{still_form, kept_form}
 use Rattle.param_store.specs.RawOffers as raw
-use Rattle.param_store.specs.View.{act_of, lists_of, HasSecond, HasWith, HasAct}
+use Rattle.param_store.specs.View.{act_of, lists_of}
 use Rattle.param_store.specs.declared.offer.Act.{Act}
-use Rattle.param_store.proofs.Stay.{part_still, part_stays, lists_still, lists_stay, are_forms_stay}
+use Rattle.param_store.proofs.Stay.{lists_still, lists_stay, are_forms_stay, act_still, act_stays}
 use Rattle.branch.specs.declared.listed.Listed.{Listed}
 use Rattle.branch.specs.Setting.{Setting}
 use Rattle.branch.specs.Ids.{kind_of}
@@ -18,32 +16,6 @@ use Rattle.branch.specs.Listed.{capped, children_of, listed_children, listed_of,
 use Rattle.branch.specs.Listing.{IsCase}
 
 module _ (s t : Tables) (e : Extends s t) where
-  second_still : (o : Option FormId) → HasSecond s o → HasSecond t o
-  second_still None h = tt
-  second_still (Some i) h = still_form s t e i h
-
-  second_stays : (o : Option FormId) → HasSecond s o → option_map (form_of t) o ≡ option_map (form_of s) o
-  second_stays None h = refl
-  second_stays (Some i) h = ap Some (kept_form s t e i h)
-
-  with_still : (o : Option Opening) → HasWith s o → HasWith t o
-  with_still None h = tt
-  with_still (Some w) h = part_still s t e w h
-
-  with_stays : (o : Option Opening) → HasWith s o → option_map (part_of t) o ≡ option_map (part_of s) o
-  with_stays None h = refl
-  with_stays (Some w) h = ap Some (part_stays s t e w h)
-
-  act_still : (a : Act) → HasAct s a → HasAct t a
-  act_still a h = record { first = still_form s t e a.first h.first; second = second_still a.second h.second; part = with_still a.with h.part }
-
-  act_stays : (a : Act) → HasAct s a → act_of t a ≡ act_of s a
-  act_stays a h =
-      let f = kept_form s t e a.first h.first in
-      let g = second_stays a.second h.second in
-      let w = with_stays a.with h.part in
-      cc
-
   children_stay : (l : Listed) → IsListed s l → listed_children t l ≡ listed_children s l
   children_stay l h =
       ap (λ rs. children_of rs (lists_of t l.normal)) (lists_stay s t e l.raw h.raw)
@@ -51,7 +23,7 @@ module _ (s t : Tables) (e : Extends s t) where
 
   listed_still : (l : Listed) → IsListed s l → IsListed t l
   listed_still l h = record {
-    act = act_still l.act h.act;
+    act = act_still s t e l.act h.act;
     raw = lists_still s t e l.raw h.raw;
     normal = lists_still s t e l.normal h.normal;
     paired = h.paired;
@@ -63,7 +35,7 @@ module _ (s t : Tables) (e : Extends s t) where
   listed_stays l h =
       let make : raw.Act → List Child → Offer =
       λ a cs. record { kind = kind_of l.offer.kind; act = a; children = cs; later = l.offer.later; earlier = l.offer.earlier; size = total_size cs } in
-      ap (λ a. make a (listed_children t l)) (act_stays l.act h.act) ∙ ap (make (act_of s l.act)) (children_stay l h)
+      ap (λ a. make a (listed_children t l)) (act_stays s t e l.act h.act) ∙ ap (make (act_of s l.act)) (children_stay l h)
 
   each_still : (ls : List Listed) → EachListed s ls → EachListed t ls
   each_still [] h = tt
@@ -91,15 +63,11 @@ module _ (s : Tables) where
   each_push [] l h k = (k, tt)
   each_push (x ∷ ls) l h k = (h.0, each_push ls l h.1 k)
 
-  map_push : (ls : List Listed) (l : Listed) → map (listed_of s) (ls ++ l ∷ []) ≡ map (listed_of s) ls ++ listed_of s l ∷ []
-  map_push [] l = refl
-  map_push (x ∷ ls) l = ap (λ os. listed_of s x ∷ os) (map_push ls l)
-
   pub listed_push : (os : List Offer) (o : Offer) (ls : List Listed) (l : Listed) → AreListed s os ls → IsListed s l → listed_of s l ≡ o
       → AreListed s (os ++ o ∷ []) (ls ++ l ∷ [])
   listed_push os o ls l h k e = record {
     each = each_push ls l h.each k;
-    offers = map_push ls l ∙ ap (λ xs. xs ++ listed_of s l ∷ []) h.offers ∙ ap (λ x. os ++ x ∷ []) e;
+    offers = (map_push (listed_of s) ls l) ∙ ap (λ xs. xs ++ listed_of s l ∷ []) h.offers ∙ ap (λ x. os ++ x ∷ []) e;
   }
 
   pub none_listed : AreListed s [] []

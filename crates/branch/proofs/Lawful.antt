@@ -1,8 +1,9 @@
 -- The laws, each in the words of its contract.
-use Rattle.std.proofs.Common.{◌≡◌, ℕ, Bool, true, false, refl, sym, subst, ◌∙◌, arith, List, [], ◌∷◌, ◌⊎◌, inl, inr, Contains, None, Some, map}
+use Rattle.std.proofs.Common.{◌≡◌, Bool, true, false, refl, sym, subst, ◌∙◌, arith, List, [], ◌∷◌, ◌⊎◌, inl, inr, Contains, None, Some, map}
 use Rattle.std.proofs.lemmas.List.Elements.{All-contains, Contains-append_cases}
+use Rattle.branch.proofs.Rules.{fresh_for_all}
 use Rattle.zm_logic.specs.Tree.{Form, Premise, Problem}
-use Rattle.zm_logic.specs.Parameter.{IsFresh, IsFreshForAll, HasNoParameter}
+use Rattle.zm_logic.specs.Parameter.{HasNoParameter}
 use Rattle.zm_logic.specs.Typing.{WellTyped, IsSignature}
 use Rattle.zm_logic.specs.Problem.{IsProblemForm, IsTypedProblem}
 use Rattle.zm_logic.specs.Calculus.{Derives}
@@ -45,10 +46,6 @@ facts_hold_on_each_branch s root tree sound h t = tableau_facts s sound root tre
 pub facts_hold_at_the_current_leaf : laws.FactsHoldAtTheCurrentLeaf
 facts_hold_at_the_current_leaf s root tree leaf sound h t e =
     at_current (HasFacts s) tree (enter [] root) [] root 0 leaf (tableau_facts s sound root tree h t) e
-
-fresh_for_all : (n : ℕ) (gamma : List Form) → ((f : Form) → Contains gamma f → IsFresh n f) → IsFreshForAll n gamma
-fresh_for_all n [] h = tt
-fresh_for_all n (f ∷ fs) h = (h f (Contains-here f fs), fresh_for_all n fs (λ g m. h g (Contains-there f fs g m)))
 
 pub delta_numbers_are_fresh : laws.DeltaNumbersAreFresh
 delta_numbers_are_fresh s table above branch place act children sound facts at =

@@ -1,6 +1,5 @@
 pub mod Lists
 pub mod Branches
-pub mod Inverted
 pub mod Arguments
 pub mod Kept
 pub mod Closings

@@ -1,6 +1,7 @@
 -- From the first Open leaf to the next one: a finished node stands in its place.
 use Rattle.std.proofs.Common.{◌≡◌, ℕ, zero, suc, ◌+◌, false, refl, ap, sym, subst, ◌∙◌, List, [], ◌∷◌, length, Option, None, Some}
 use Rattle.std.specs.Option.{option_map, option_or}
+use Rattle.std.proofs.lemmas.Option.{same_Some}
 use Rattle.zm_logic.specs.Tree.{Form}
 use Rattle.term_store.specs.Trees.{Tables}
 use Rattle.param_store.specs.View.{forms_of, lists_of}
@@ -17,15 +18,12 @@ none_of i None None e = (refl, refl)
 none_of i None (Some d) e = absurd (let q = e in cc)
 none_of i (Some js) c e = absurd (let q = e in cc)
 
-path_is : (p q : List ℕ) → Some p ≡ Some q → p ≡ q
-path_is p q e = cc
-
 some_of : (P : List ℕ → Type 0) (i : ℕ) (o : Option (List ℕ)) (c : Option Child) (q : List ℕ)
     → option_or (option_map (λ js. i ∷ js) o) (option_map (λ d. suc i ∷ []) c) ≡ Some q
     → ((js : List ℕ) → o ≡ Some js → P (i ∷ js)) → ((d : Child) → o ≡ None → c ≡ Some d → P (suc i ∷ [])) → P q
 some_of P i None None q e f g = absurd (let z = e in cc)
-some_of P i None (Some d) q e f g = subst P (path_is (suc i ∷ []) q e) (g d refl refl)
-some_of P i (Some js) c q e f g = subst P (path_is (i ∷ js) q e) (f js refl)
+some_of P i None (Some d) q e f g = subst P (same_Some (suc i ∷ []) q e) (g d refl refl)
+some_of P i (Some js) c q e f g = subst P (same_Some (i ∷ js) q e) (f js refl)
 
 nonempty : (p : List ℕ) (n : Node) → next p n ≡ Some [] → ⊥
 nonempty [] n e = let q = e in cc

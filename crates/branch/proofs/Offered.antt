@@ -1,11 +1,12 @@
 -- Each raw offer is one by the rules.
 use Rattle.std.proofs.Common.{◌≡◌, ◌==◌, ℕ, Bool, true, false, ◌&&◌, cond, refl, sym, subst, List, [], ◌∷◌, ◌++◌, inl, inr, Contains, Option, None, Some, slice_get, length}
-use Rattle.std.proofs.lemmas.Bool.{eqb-true}
+use Rattle.std.proofs.lemmas.Bool.{eqb-true, and_parts}
 use Rattle.std.proofs.lemmas.List.Elements.{Contains-append_cases}
+use Rattle.std.proofs.lemmas.Option.{same_Some}
 use Rattle.zm_logic.specs.Tree.{Ty, Term, Form, Opening, Side, differ}
 use Rattle.zm_logic.specs.Typing.{symbol_at}
 use Rattle.zm_logic.specs.Same.{same_type, same_types}
-use Rattle.zm_logic.proofs.Sames.{Contains-here, Contains-there, Contains-cases, Contains-none, both_true, only, same_type-true, same_types-true}
+use Rattle.zm_logic.proofs.Sames.{Contains-here, Contains-there, Contains-cases, Contains-none, only, same_type-true, same_types-true}
 use Rattle.param_store.specs.RawOffers.{Raw, Quantified, on, on_with, one, split, split_offers, quantified, own_part, number_of, at_part, opened, opened_offers}
 use Rattle.unify.specs.Binding.{Binding}
 use Rattle.unify.specs.Unification.{UnifiesForms, UnifiesTerms}
@@ -124,7 +125,7 @@ module _ (s : Setting) (table b : List Form) where
   values_offered : (t : Ty) (u v : Term) → Contains b (differ t u v) → AllRaw Kind.equality (value_steps s.symbols (differ t u v) u v)
   values_offered t (Term.app f ts us) (Term.app g rs vs) h =
       if_raw Kind.equality ((f == g) && (same_types ts rs && has_arguments us)) _ (λ e.
-      let p = both_true _ _ e in let q = both_true _ _ p.1 in
+      let p = and_parts _ _ e in let q = and_parts _ _ p.1 in
       let i : Term.app g rs vs ≡ Term.app f ts vs = (let j = eqb-true f g p.0 in let k = same_types-true ts rs q.0 in cc) in
       let P : Term → Type 0 = λ x. Offered s table b Kind.equality (on (differ t (Term.app f ts us) x)) (unequal (symbol_at s.symbols f) ts us vs) in
       let Q : Term → Type 0 = λ x. Contains b (differ t (Term.app f ts us) x) in
@@ -135,7 +136,7 @@ module _ (s : Setting) (table b : List Form) where
   pairs_offered : (f g : Form) → Contains b f → Contains b (Form.negation g) → AllRaw Kind.equality (pair_steps s.symbols f g)
   pairs_offered (Form.atom p ts us) (Form.atom q rs vs) h k =
       if_raw Kind.equality ((p == q) && (same_types ts rs && has_arguments us)) _ (λ e.
-      let x = both_true _ _ e in let y = both_true _ _ x.1 in
+      let x = and_parts _ _ e in let y = and_parts _ _ x.1 in
       let i : Form.atom q rs vs ≡ Form.atom p ts vs = (let j = eqb-true p q x.0 in let l = same_types-true ts rs y.0 in cc) in
       let P : Form → Type 0 = λ z. Offered s table b Kind.equality (on_pair (Form.atom p ts us) z false) (unequal (symbol_at s.symbols p) ts us vs) in
       let Q : Form → Type 0 = λ z. Contains b (Form.negation z) in
@@ -160,11 +161,8 @@ module _ (s : Setting) (table b : List Form) where
     denied : Contains b (Form.negation o.denied)
     solves : (made : List Binding) → UnifiesForms o.left o.right made → Solves b made
 
-  opposites_are : (x y : Opposites) → Some x ≡ Some y → x ≡ y
-  opposites_are x y e = cc
-
   if_alike : (v : Bool) (x o : Opposites) → cond v (Some x) None ≡ Some o → x ≡ o
-  if_alike true x o e = opposites_are x o e
+  if_alike true x o e = same_Some x o e
   if_alike false x o e = cc
 
   opposed : (g f : Form) (o : Opposites) → opposites g f ≡ Some o → Contains b g → Contains b f → IsOpposed o

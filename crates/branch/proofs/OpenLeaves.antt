@@ -1,8 +1,8 @@
 -- A finished node has no current leaf, an unfinished one has one, and Open leaves have no picks.
 use Rattle.std.proofs.Common.{◌≡◌, ℕ, ◌+◌, Bool, true, false, ◌&&◌, refl, ap, ◌∙◌, List, [], None, Some}
 use Rattle.std.specs.Option.{option_or}
+use Rattle.std.proofs.lemmas.Bool.{and_parts}
 use Rattle.zm_logic.specs.Tree.{Form}
-use Rattle.zm_logic.proofs.Sames.{both_true}
 use Rattle.branch.specs.Branch.{extend}
 use Rattle.branch.specs.Tableau.{Node, Children, is_finished, are_finished, are_open, Leaf, enter_child, after, current, current_of, picks_all}
 
@@ -16,7 +16,7 @@ mutual
   pub finished_current_of : (ns : Children) (t b : List Form) (d : ℕ) → are_finished ns ≡ true → current_of t b d ns ≡ None
   finished_current_of Children.none t b d e = refl
   finished_current_of (Children.more r f n ns) t b d e =
-      let p = both_true (is_finished n) (are_finished ns) e in
+      let p = and_parts (is_finished n) (are_finished ns) e in
       rw (finished_current n (enter_child t f n) (extend b f) d p.0) (finished_current_of ns (after (enter_child t f n) n) b d p.1)
 
 pub open_picks : (ns : Children) → are_open ns ≡ true → picks_all ns ≡ []

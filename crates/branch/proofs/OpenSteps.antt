@@ -1,6 +1,7 @@
 -- A Step over ids with Open leaves below it, and its tree.
 use Rattle.std.proofs.Common.{ℕ, zero, suc, ◌≡◌, ◌+◌, ◌<◌, ◌≤◌, refl, ap, sym, subst, ◌∙◌, arith, List, [], ◌∷◌, ◌++◌, length, map, take, get_or, slice_get, Some}
 use Rattle.std.proofs.Math.Seq.{take-length}
+use Rattle.std.proofs.lemmas.Option.{same_Some}
 use Rattle.term_store.specs.Trees.{Tables}
 use Rattle.term_store.specs.declared.ids.FormId.{FormId}
 use Rattle.param_store.specs.View.{forms_of, lists_of, HasForms, HasLists}
@@ -8,15 +9,12 @@ use Rattle.branch.specs.declared.listed.Listed.{Listed}
 use Rattle.branch.specs.declared.node.Child as code_child
 use Rattle.branch.specs.Ids.{Node, Children, children_of, child_ids, tree_of, trees_of, HasNode, HasNodes}
 use Rattle.branch.specs.Listed as listed
-use Rattle.branch.specs.Listed.{listed_children, IsListed}
+use Rattle.branch.specs.Listed.{IsListed}
 use Rattle.branch.specs.Replaced.{opening}
 use Rattle.branch.specs.Tableau as tableau
 use Rattle.branch.specs.Tableau.{count, count_all, picks, picks_all, height, height_all}
 use Rattle.branch.specs.Offers as offers
 use Rattle.branch.specs.Stepping.{open_leaf, open_leaves, step_ids}
-
-some_is : (x y : List FormId) → Some x ≡ Some y → x ≡ y
-some_is x y e = cc
 
 -- one leaf more
 open_next : (i : ℕ) (rs ns : List (List FormId)) (d b : List FormId) → i < length rs → length ns ≡ length rs
@@ -57,11 +55,11 @@ pub first_open : (rs ns : List (List FormId)) (f : List FormId) → length ns �
 first_open [] [] f e h = absurd (let q = h in cc)
 first_open [] (n ∷ ns) f e h = absurd (omega (arith, e))
 first_open (r ∷ rs) [] f e h = absurd (omega (arith, e))
-first_open (r ∷ rs) (n ∷ ns) f e h = (r, children_of (open_leaves rs ns), ap (λ x. Children.more r x Node.opened (children_of (open_leaves rs ns))) (some_is n f h))
+first_open (r ∷ rs) (n ∷ ns) f e h = (r, children_of (open_leaves rs ns), ap (λ x. Children.more r x Node.opened (children_of (open_leaves rs ns))) (same_Some n f h))
 
 pub first_has : (s : Tables) (ns : List (List FormId)) (f : List FormId) → HasLists s ns → slice_get ns 0 ≡ Some f → HasForms s f
 first_has s [] f h e = absurd (let q = e in cc)
-first_has s (n ∷ ns) f h e = subst (HasForms s) (some_is n f e) h.0
+first_has s (n ∷ ns) f h e = subst (HasForms s) (same_Some n f e) h.0
 
 module _ (s : Tables) where
   -- the trees are the Open children of the offer

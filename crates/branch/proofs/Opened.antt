@@ -1,5 +1,6 @@
 -- A quantified formula at what its binder may stand for.
 use Rattle.std.proofs.Common.{◌≡◌, ℕ, Bool, true, false, refl, ap, sym, subst, List, ◌∷◌, Contains, Some, is_some}
+use Rattle.std.proofs.lemmas.Option.{same_Some}
 use Rattle.zm_logic.specs.Tree.{Ty, Tys, Term, Form, Quantifier, Opening, Binder, Symbol}
 use Rattle.zm_logic.specs.Opening.{open_type, types_instance, openings}
 use Rattle.zm_logic.specs.Parameter.{Parameter, number, EachIn, EachInTypes, IsFreshForAll}
@@ -10,7 +11,7 @@ use Rattle.zm_logic.proofs.Each.{EachInOpening, each_open, each_open_types}
 use Rattle.branch.specs.Setting.{Setting}
 use Rattle.param_store.specs.RawOffers.{QuantifierKind, Quantified, quantified, is_quantified, part_for, own_part, at_part}
 use Rattle.branch.specs.Introduced.{part_of}
-use Rattle.branch.proofs.Inverted.{well_typed_negation, binder_type}
+use Rattle.zm_logic.proofs.Inverted.{well_typed_negation, binder_type}
 use Rattle.branch.proofs.Kept.{CarriesTypes}
 
 abbrev made : QuantifierKind → Binder → Bool → Form → Quantified
@@ -25,22 +26,19 @@ pub data IsShape : Form → Quantified → Type 0 where
   for_all_types : (a : Form) → IsShape (Form.for_all_types a) (record { kind = QuantifierKind.gamma; binder = Binder.of_type; holds = true; body = a })
   not_exists : (t : Ty) (a : Form) → IsShape (Form.negation (Form.quantified Quantifier.existential t a)) (record { kind = QuantifierKind.gamma; binder = Binder.of_term t; holds = false; body = a })
 
-some_is : (x y : Quantified) → Some x ≡ Some y → x ≡ y
-some_is x y e = cc
-
 pub shape : (f : Form) (q : Quantified) → quantified f ≡ Some q → IsShape f q
 shape (Form.quantified Quantifier.existential t a) q e =
-    subst (IsShape (Form.quantified Quantifier.existential t a)) (some_is (made QuantifierKind.delta (Binder.of_term t) true a) q e) (IsShape.exists t a)
+    subst (IsShape (Form.quantified Quantifier.existential t a)) (same_Some (made QuantifierKind.delta (Binder.of_term t) true a) q e) (IsShape.exists t a)
 shape (Form.negation (Form.quantified Quantifier.universal t a)) q e =
-    subst (IsShape (Form.negation (Form.quantified Quantifier.universal t a))) (some_is (made QuantifierKind.delta (Binder.of_term t) false a) q e) (IsShape.not_for_all t a)
+    subst (IsShape (Form.negation (Form.quantified Quantifier.universal t a))) (same_Some (made QuantifierKind.delta (Binder.of_term t) false a) q e) (IsShape.not_for_all t a)
 shape (Form.negation (Form.for_all_types a)) q e =
-    subst (IsShape (Form.negation (Form.for_all_types a))) (some_is (made QuantifierKind.delta Binder.of_type false a) q e) (IsShape.not_for_all_types a)
+    subst (IsShape (Form.negation (Form.for_all_types a))) (same_Some (made QuantifierKind.delta Binder.of_type false a) q e) (IsShape.not_for_all_types a)
 shape (Form.quantified Quantifier.universal t a) q e =
-    subst (IsShape (Form.quantified Quantifier.universal t a)) (some_is (made QuantifierKind.gamma (Binder.of_term t) true a) q e) (IsShape.for_all t a)
+    subst (IsShape (Form.quantified Quantifier.universal t a)) (same_Some (made QuantifierKind.gamma (Binder.of_term t) true a) q e) (IsShape.for_all t a)
 shape (Form.for_all_types a) q e =
-    subst (IsShape (Form.for_all_types a)) (some_is (made QuantifierKind.gamma Binder.of_type true a) q e) (IsShape.for_all_types a)
+    subst (IsShape (Form.for_all_types a)) (same_Some (made QuantifierKind.gamma Binder.of_type true a) q e) (IsShape.for_all_types a)
 shape (Form.negation (Form.quantified Quantifier.existential t a)) q e =
-    subst (IsShape (Form.negation (Form.quantified Quantifier.existential t a))) (some_is (made QuantifierKind.gamma (Binder.of_term t) false a) q e) (IsShape.not_exists t a)
+    subst (IsShape (Form.negation (Form.quantified Quantifier.existential t a))) (same_Some (made QuantifierKind.gamma (Binder.of_term t) false a) q e) (IsShape.not_exists t a)
 shape f q e = cc
 
 pub quantified_is : (f : Form) (q : Quantified) → quantified f ≡ Some q → is_quantified f ≡ true

@@ -5,9 +5,5 @@ pub after_either : {A E P : Type 0} (r : Result A E) → OnOk r P → OnErr r P 
 after_either (Ok x) h k = h
 after_either (Err e) h k = k
 
-pub if_err_weaker : {A E : Type 0} (r : Result A E) (P Q : E → Type 0) → ((e : E) → P e → Q e) → IfErr r P → IfErr r Q
-if_err_weaker (Ok x) P Q to h = tt
-if_err_weaker (Err e) P Q to h = to e h
-
 pub if_err_is : {A E : Type 0} (r : Result A E) (P : E → Type 0) (y e : E) → r ≡ Err y → y ≡ e → P e → IfErr r P
 if_err_is r P y e h k p = subst (λ z. IfErr z P) (sym h) (subst P (sym k) p)

@@ -1,8 +1,9 @@
 -- Paths to the first Open leaf: what the trees of ids have there, and where the next one is.
 use Rattle.std.proofs.Common.{◌≡◌, ℕ, zero, suc, ◌+◌, Bool, true, false, ◌&&◌, ◌↔◌, cond, refl, ap, sym, ◌∙◌, List, [], ◌∷◌, ◌++◌, length, Some, arith}
 use Rattle.std.specs.Option.{option_or}
+use Rattle.std.proofs.lemmas.Option.{same_Some}
+use Rattle.std.proofs.lemmas.Bool.{and_parts, and_from, and_right}
 use Rattle.zm_logic.specs.Tree.{Form}
-use Rattle.zm_logic.proofs.Sames.{both_true, and_true}
 use Rattle.term_store.specs.declared.ids.FormId.{FormId}
 use Rattle.term_store.specs.Trees.{Tables}
 use Rattle.param_store.specs.declared.offer.Act.{Act}
@@ -16,10 +17,6 @@ use Rattle.branch.specs.Replaced.{replaced, replaced_in, skipping}
 use Rattle.branch.specs.Ids.{Node, Children, kind_of, tree_of, trees_of}
 use Rattle.branch.specs.Path.{IsFinished, AreFinished, IsFirst, IsFirstOf, put, put_in, along, along_in, extend_all}
 use Rattle.branch.proofs.OpenLeaves.{finished_current}
-
-and_false : (v : Bool) → (v && false) ≡ false
-and_false true = refl
-and_false false = refl
 
 unfinished_skipped : (n : tableau.Node) → is_finished n ≡ false → is_skipped n ≡ false
 unfinished_skipped (tableau.Node.step k c a ns) e = refl
@@ -89,7 +86,7 @@ module _ (s : Tables) where
     finished_trees : (ns : Children) → AreFinished ns → are_finished (trees_of s ns) ≡ true
     finished_trees Children.none h = refl
     finished_trees (Children.more r f n ns) h =
-        and_true (is_finished (tree_of s n)) (are_finished (trees_of s ns)) (finished_tree n h.0) (finished_trees ns h.1)
+        and_from (is_finished (tree_of s n)) (are_finished (trees_of s ns)) (finished_tree n h.0) (finished_trees ns h.1)
 
   mutual
     pub tree_finished : (n : Node) → is_finished (tree_of s n) ≡ true → IsFinished n
@@ -101,7 +98,7 @@ module _ (s : Tables) where
     trees_finished : (ns : Children) → are_finished (trees_of s ns) ≡ true → AreFinished ns
     trees_finished Children.none e = tt
     trees_finished (Children.more r f n ns) e =
-        let p = both_true (is_finished (tree_of s n)) (are_finished (trees_of s ns)) e in (tree_finished n p.0, trees_finished ns p.1)
+        let p = and_parts (is_finished (tree_of s n)) (are_finished (trees_of s ns)) e in (tree_finished n p.0, trees_finished ns p.1)
 
   pub finished : (n : Node) → IsFinished n ↔ (is_finished (tree_of s n) ≡ true)
   finished n = (finished_tree n, tree_finished n)
@@ -138,7 +135,7 @@ module _ (s : Tables) where
         let on = now (tree_of s n) (replaced_in false b (tree_of s x) (trees_of s ns)) in
         let off : Bool → tableau.Children = λ v. now y (cond v (skipping (trees_of s ns)) (trees_of s ns)) in
         ap (λ m. now m (trees_of s ns)) (put_replaced is n x (extend b (forms_of s f)) h)
-        ∙ sym (ap off (and_false (is_idle b (forms_of s f) y (uses (extend b (forms_of s f)) y))))
+        ∙ sym (ap off (and_right (is_idle b (forms_of s f) y (uses (extend b (forms_of s f)) y)) false refl))
         ∙ sym (ap (λ v. cond v on (off (skips false b (forms_of s f) y))) (first_unfinished is n h))
     put_in_replaced (suc i) is (Children.more r f n ns) x b h =
         let now = tableau.Children.more (forms_of s r) (forms_of s f) in
@@ -194,12 +191,9 @@ module _ (s : Tables) where
         ap (λ o. option_or o (current_of (after u m) b d (trees_of s ns))) (finished_current m u (extend b (forms_of s f)) d (finished_tree n h.0))
         ∙ first_current_of i is ns (after u m) b d h.1
 
-  leaf_is : (x y : Leaf) → Some x ≡ Some y → x ≡ y
-  leaf_is x y e = cc
-
   pub first_leaf : (p : List ℕ) (n : Node) (t b : List Form) (d : ℕ) (leaf : Leaf) → IsFirst p n → current t b d (tree_of s n) ≡ Some leaf
       → leaf ≡ record { branch = extend_all b (lists_of s (along p n)); above = d + length p; table = table_at t p n }
-  first_leaf p n t b d leaf h e = leaf_is leaf _ (sym e ∙ first_current p n t b d h)
+  first_leaf p n t b d leaf h e = same_Some leaf _ (sym e ∙ first_current p n t b d h)
 
   -- in a lawful tree stand Open leaves alone behind a child with one
   are_opened : (ns : Children) → tableau.are_open (trees_of s ns) ≡ true → AreOpened ns

@@ -1,8 +1,8 @@
 -- Picks determine the tree: two lawful trees with the same picks, whose current branches aren't closed, are equal.
-use Rattle.std.proofs.Common.{◌≡◌, ℕ, ◌+◌, Bool, true, false, ◌&&◌, ◌||◌, cond, refl, ap, sym, subst, ◌∙◌, List, [], ◌∷◌, ◌++◌, Option, None, Some, append_assoc}
+use Rattle.std.proofs.Common.{◌≡◌, ℕ, ◌+◌, Bool, true, false, ◌||◌, cond, refl, ap, sym, subst, ◌∙◌, List, [], ◌∷◌, ◌++◌, Option, None, Some, append_assoc}
 use Rattle.std.specs.Option.{option_or}
+use Rattle.std.proofs.lemmas.Bool.{and_right, and_left, and_parts}
 use Rattle.zm_logic.specs.Tree.{Form}
-use Rattle.zm_logic.proofs.Sames.{both_true}
 use Rattle.branch.specs.Branch.{Closing, closing, extend}
 use Rattle.branch.specs.Setting.{Setting}
 use Rattle.branch.specs.Sound.{IsSound, AreGiven}
@@ -38,8 +38,8 @@ open_children Children.none Children.none e h k = refl
 open_children Children.none (Children.more u g m ms) e h k = cc
 open_children (Children.more r f n ns) Children.none e h k = cc
 open_children (Children.more r f n ns) (Children.more u g m ms) e h k =
-    let p = both_true (is_open n) (are_open ns) h in
-    let q = both_true (is_open m) (are_open ms) k in
+    let p = and_parts (is_open n) (are_open ns) h in
+    let q = and_parts (is_open m) (are_open ms) k in
     let c = child_is r f u g (given ns) (given ms) e in
     let x = opened_is n p.0 in
     let y = opened_is m q.0 in
@@ -61,14 +61,6 @@ later_unclosed : (t b r f : List Form) (d : ℕ) (n : Node) (ns : Children) → 
     → AreUnclosed (after (enter_child t f n) n) b d ns
 later_unclosed t b r f d n ns h u leaf e =
     u leaf (ap (λ o. option_or o (current_of (after (enter_child t f n) n) b d ns)) (finished_current n (enter_child t f n) (extend b f) d h) ∙ e)
-
-only_rest : (a b : Bool) → b ≡ false → (a && b) ≡ false
-only_rest true b e = e
-only_rest false b e = refl
-
-not_both : (a b : Bool) → a ≡ false → (a && b) ≡ false
-not_both true b e = cc
-not_both false b e = refl
 
 closed_is : (o : Option Closing) (c d : Closing) → o ≡ Some c → o ≡ Some d → c ≡ d
 closed_is o c d e h = cc
@@ -124,8 +116,8 @@ module _ (s : Setting) (sound : IsSound s) where
         let first = same_node_in n m t b f d (picks_all ns ++ ks) (picks_all ms ++ ls) i l.0 h'.0
         (same_node n m (enter_child t f n) above (extend b f) d (picks_all ns ++ ks) (picks_all ms ++ ls) facts.0 l.1)
         h'.1 (first_unclosed t b r f d n ns u) (first_unclosed t b v f d m ms x')
-        (λ z. rest_none ns ks (l.3 z) (p (not_both (is_finished n) (are_finished ns) z)))
-        (λ z. rest_none ms ls (h'.3 z) (q (not_both (is_finished m) (are_finished ms) z)))
+        (λ z. rest_none ns ks (l.3 z) (p (and_left (is_finished n) (are_finished ns) z)))
+        (λ z. rest_none ms ls (h'.3 z) (q (and_left (is_finished m) (are_finished ms) z)))
         (sym (append_assoc (picks n) (picks_all ns) ks) ∙ e ∙ append_assoc (picks m) (picks_all ms) ls) in
         let R : Node → Type 0 = λ y. AreLawful s (after (enter_child t f y) y) b (i || skips s.prunes b f y) ms in
         let S : Node → Type 0 = λ y. AreUnclosed t b d (Children.more v f y ms) in
@@ -162,9 +154,9 @@ module _ (s : Setting) (sound : IsSound s) where
             → (is_finished n ≡ true → (are_finished ns ≡ false → ks ≡ []) → (are_finished ms ≡ false → ls ≡ []) → picks_all ns ++ ks ≡ picks_all ms ++ ls → (ns ≡ ms) × (ks ≡ ls))
             → (ns ≡ ms) × (ks ≡ ls)
         go true n e ns ms t b r f w d ks ls i g h x y p q rec =
-            rec e (λ z. p (only_rest (is_finished n) (are_finished ns) z)) (λ z. q (only_rest (is_finished n) (are_finished ms) z)) h
+            rec e (λ z. p (and_right (is_finished n) (are_finished ns) z)) (λ z. q (and_right (is_finished n) (are_finished ms) z)) h
         go false n e ns ms t b r f w d ks ls i g h x y p q rec =
-            (open_children ns ms g (y e) (x e), p (not_both (is_finished n) (are_finished ns) e) ∙ sym (q (not_both (is_finished n) (are_finished ms) e)))
+            (open_children ns ms g (y e) (x e), p (and_left (is_finished n) (are_finished ns) e) ∙ sym (q (and_left (is_finished n) (are_finished ms) e)))
 
 pub picks_determine : (s : Setting) → IsSound s → (root : List Form) → AreGiven s root → (ks : List ℕ) (n m : Node) → IsRun s root ks n → IsRun s root ks m → n ≡ m
 picks_determine s sound root given ks n m x y =

@@ -4,6 +4,8 @@ use Rattle.std.specs.Prelude.{slice_get, slice_set, slice_index_or, MatchOption}
 use Rattle.std.specs.Option.{option_map, option_or}
 use Rattle.std.proofs.Math.Seq.{take-length}
 use Rattle.std.proofs.lemmas.Bool.{eqb-true}
+use Rattle.std.proofs.lemmas.Option.{same_Some}
+use Rattle.std.proofs.lemmas.List.{same_from_push}
 use Rattle.term_store.specs.declared.ids.FormId.{FormId}
 use Rattle.term_store.specs.Trees.{Tables}
 use Rattle.param_store.specs.declared.offer.Act.{Act}
@@ -67,9 +69,6 @@ child_put i is cs c d x e r f n = go i cs (sym (ap child_ids e) ∙ child_opens 
         ap (λ (z : Child). Children.more z.raw z.normal z.node (children_of (map child_ids ds))) y
     go (suc j) (b ∷ ds) k = ap (Children.more (child_ids b).raw (child_ids b).normal (child_ids b).node) (go j ds k)
 
-child_is : (x y : Child) → Some x ≡ Some y → x ≡ y
-child_is x y e = cc
-
 -- what stands along a path that leads through a child
 mutual
   pub child_has : (s : Tables) (i : ℕ) (n : Node) (c : Child) → child_at i n ≡ Some c → HasNode s n → HasForms s c.normal × HasNode s c.node
@@ -80,12 +79,12 @@ mutual
 
   child_in_has : (s : Tables) (i : ℕ) (ns : Children) (c : Child) → child_in i ns ≡ Some c → HasNodes s ns → HasForms s c.normal × HasNode s c.node
   child_in_has s i Children.none c e h = absurd (let q = e in cc)
-  child_in_has s zero (Children.more r f n ns) c e h = subst (λ (x : Child). HasForms s x.normal × HasNode s x.node) (child_is (record { raw = r; normal = f; node = n }) c e) (h.1, h.2)
+  child_in_has s zero (Children.more r f n ns) c e h = subst (λ (x : Child). HasForms s x.normal × HasNode s x.node) (same_Some (record { raw = r; normal = f; node = n }) c e) (h.1, h.2)
   child_in_has s (suc i) (Children.more r f n ns) c e h = child_in_has s i ns c e h.3
 
 along_child_in : (i : ℕ) (is : List ℕ) (ns : Children) (c : Child) → child_in i ns ≡ Some c → along_in i is ns ≡ c.normal ∷ along is c.node
 along_child_in i is Children.none c e = absurd (let q = e in cc)
-along_child_in zero is (Children.more r f n ns) c e = ap (λ (x : Child). x.normal ∷ along is x.node) (child_is (record { raw = r; normal = f; node = n }) c e)
+along_child_in zero is (Children.more r f n ns) c e = ap (λ (x : Child). x.normal ∷ along is x.node) (same_Some (record { raw = r; normal = f; node = n }) c e)
 along_child_in (suc i) is (Children.more r f n ns) c e = along_child_in i is ns c e
 
 pub along_child : (i : ℕ) (is : List ℕ) (n : Node) (c : Child) → child_at i n ≡ Some c → along (i ∷ is) n ≡ c.normal ∷ along is c.node
@@ -115,12 +114,12 @@ added_along s p i is n c old new e f g =
 -- the child to which a path leads is the first one, or one below it
 brought_last_in : (i : ℕ) (ns : Children) (c : Child) → child_in i ns ≡ Some c → brought_in i [] ns ≡ c.normal
 brought_last_in i Children.none c e = absurd (let q = e in cc)
-brought_last_in zero (Children.more r f n ns) c e = ap (λ (x : Child). x.normal) (child_is (record { raw = r; normal = f; node = n }) c e)
+brought_last_in zero (Children.more r f n ns) c e = ap (λ (x : Child). x.normal) (same_Some (record { raw = r; normal = f; node = n }) c e)
 brought_last_in (suc i) (Children.more r f n ns) c e = brought_last_in i ns c e
 
 brought_below_in : (i j : ℕ) (js : List ℕ) (ns : Children) (c : Child) → child_in i ns ≡ Some c → brought_in i (j ∷ js) ns ≡ brought (j ∷ js) c.node
 brought_below_in i j js Children.none c e = absurd (let q = e in cc)
-brought_below_in zero j js (Children.more r f n ns) c e = ap (λ (x : Child). brought (j ∷ js) x.node) (child_is (record { raw = r; normal = f; node = n }) c e)
+brought_below_in zero j js (Children.more r f n ns) c e = ap (λ (x : Child). brought (j ∷ js) x.node) (same_Some (record { raw = r; normal = f; node = n }) c e)
 brought_below_in (suc i) j js (Children.more r f n ns) c e = brought_below_in i j js ns c e
 
 pub brought_last : (p : List ℕ) (i : ℕ) (is : List ℕ) (n : Node) (c : Child) → p ≡ i ∷ is → child_at i n ≡ Some c → true ≡ (length is == 0) → brought p n ≡ c.normal
@@ -169,25 +168,13 @@ added_inside i old pushed new m None c k e h = absurd (let q = h.0 in cc)
 added_inside i old pushed new m (Some js) c k e h =
     subst (λ w. IsAdded old new w true) (sym k) (refl, h.1 ∙ ap (λ xs. xs ++ js) e ∙ append_assoc old (i ∷ []) js)
 
-snoc_is : (xs ys : List ℕ) (x y : ℕ) → xs ++ x ∷ [] ≡ ys ++ y ∷ [] → xs ≡ ys
-snoc_is [] [] x y e = refl
-snoc_is [] (b ∷ []) x y e = absurd (let q = e in cc)
-snoc_is [] (b ∷ c ∷ ys) x y e = absurd (let q = e in cc)
-snoc_is (a ∷ []) [] x y e = absurd (let q = e in cc)
-snoc_is (a ∷ c ∷ xs) [] x y e = absurd (let q = e in cc)
-snoc_is (a ∷ xs) (b ∷ ys) x y e =
-    let rest : xs ++ x ∷ [] ≡ ys ++ y ∷ [] = cc in
-    let first : a ≡ b = cc in
-    let tail = snoc_is xs ys x y rest in
-    cc
-
 -- what was pushed is popped again, where nothing was found inside the child
 pub popped : (i : ℕ) (old pushed found new : List ℕ) (o : Option (List ℕ)) (r : Option ℕ) → pushed ≡ old ++ i ∷ [] → IsAdded pushed found o false
     → MatchOption r ((found ≡ []) × (new ≡ [])) (λ last. found ≡ new ++ last ∷ []) → (o ≡ None) × (new ≡ old)
 popped i old pushed found new (Some js) r e h m = absurd (let q = h.0 in cc)
 popped i [] pushed found new None None e h m = absurd (let q : i ∷ [] ≡ [] = sym (h.1 ∙ e) ∙ m.0 in cc)
 popped i (a ∷ old) pushed found new None None e h m = absurd (let q : a ∷ (old ++ i ∷ []) ≡ [] = sym (h.1 ∙ e) ∙ m.0 in cc)
-popped i old pushed found new None (Some last) e h m = (refl, snoc_is new old last i (sym m ∙ h.1 ∙ e))
+popped i old pushed found new None (Some last) e h m = (refl, (same_from_push new old last i (sym m ∙ h.1 ∙ e)).0)
 
 behind_within : (i : ℕ) (cs : List Code) → i < length cs → (c : Child) × (child_in i (children_of (map child_ids cs)) ≡ Some c)
 behind_within i [] h = absurd (omega arith)

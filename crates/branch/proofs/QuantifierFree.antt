@@ -1,7 +1,8 @@
 -- A branch without quantifiers, equality and parameters offers its alpha and beta formulas, and nothing else.
-use Rattle.std.proofs.Common.{◌≡◌, ℕ, ◌+◌, Bool, true, false, ◌||◌, refl, ap, sym, subst, ◌∙◌, List, [], ◌∷◌, ◌++◌, inl, inr, Contains, Option, None, map, length, append-nil}
+use Rattle.std.proofs.Common.{◌≡◌, ℕ, ◌+◌, false, refl, ap, sym, subst, ◌∙◌, List, [], ◌∷◌, ◌++◌, inl, inr, Contains, Option, None, map, length, append-nil}
 use Rattle.std.proofs.lemmas.List.{length_push, map-append}
 use Rattle.std.proofs.lemmas.List.Elements.{Contains-append_left, Contains-append_right, Contains-append_cases, Contains-push_cases}
+use Rattle.std.proofs.lemmas.Bool.{or_from}
 use Rattle.zm_logic.specs.Tree.{Term, Form}
 use Rattle.zm_logic.specs.Parameter.{HasNoParameter}
 use Rattle.zm_logic.specs.Truth.{IsQuantifierFree}
@@ -44,14 +45,10 @@ not_equality (Form.binary c f g) h = refl
 not_equality (Form.quantified q t f) h = refl
 not_equality (Form.for_all_types f) h = refl
 
-or_false : (u v : Bool) → u ≡ false → v ≡ false → (u || v) ≡ false
-or_false true v h k = h
-or_false false v h k = k
-
 pub no_equality : (b : List Form) → ((f : Form) → Contains b f → IsQuantifierFree f) → has_equality b ≡ false
 no_equality [] h = refl
 no_equality (f ∷ fs) h =
-    or_false (is_equality f) (has_equality fs) (not_equality f (h f (Contains-here f fs))) (no_equality fs (λ g m. h g (Contains-there f fs g m)))
+    or_from (is_equality f) (has_equality fs) (not_equality f (h f (Contains-here f fs))) (no_equality fs (λ g m. h g (Contains-there f fs g m)))
 
 -- what a formula offers by itself
 pub own_split : (table : List Form) (j : ℕ) (f : Form) → IsQuantifierFree f → own_entries table j f ≡ map Entry.offer (split_at j f (split f))

@@ -1,8 +1,9 @@
 -- A lawful node below the current leaf's branch, put in that leaf's place, leaves the tree lawful.
 use Rattle.std.proofs.Common.{◌≡◌, ℕ, ◌+◌, ◌≤◌, Bool, true, false, ◌&&◌, ◌||◌, cond, refl, ap, sym, subst, ◌∙◌, List, [], ◌∷◌, ◌++◌, arith, None, Some, append_assoc}
 use Rattle.std.specs.Option.{option_or}
+use Rattle.std.proofs.lemmas.Option.{same_Some}
+use Rattle.std.proofs.lemmas.Bool.{and_parts}
 use Rattle.zm_logic.specs.Tree.{Form}
-use Rattle.zm_logic.proofs.Sames.{both_true}
 use Rattle.branch.specs.Branch.{closing, extend}
 use Rattle.branch.specs.Setting.{Setting}
 use Rattle.param_store.specs.RawOffers.{Act}
@@ -66,9 +67,6 @@ module _ (s : Setting) where
   finished_skipped Node.opened e = refl
   finished_skipped Node.skipped e = absurd (let q = e in cc)
 
-  leaf_is : (x y : Leaf) → Some x ≡ Some y → x ≡ y
-  leaf_is x y e = cc
-
   idle_finished : (v w : Bool) → v ≡ false → (v && w) ≡ true → ⊥
   idle_finished true w e h = cc
   idle_finished false w e h = cc
@@ -83,7 +81,7 @@ module _ (s : Setting) where
     )
     replaced_lawful (Node.closed c) t b d x leaf l e z h = absurd (let q = e in cc)
     replaced_lawful Node.opened t b d x leaf l e z h =
-        subst (λ y. IsLawful s y.table y.branch x) (sym (leaf_is (record { branch = b; above = d; table = t }) leaf e)) h
+        subst (λ y. IsLawful s y.table y.branch x) (sym (same_Some (record { branch = b; above = d; table = t }) leaf e)) h
     replaced_lawful Node.skipped t b d x leaf l e z h = absurd (let q = e in cc)
 
     pub replaced_in_lawful : (ns : Children) (t b : List Form) (d : ℕ) (x : Node) (leaf : Leaf) (i : Bool) → AreLawful s t b i ns → current_of t b d ns ≡ Some leaf
@@ -94,7 +92,7 @@ module _ (s : Setting) where
         (λ q. replaced_in_lawful ns (after (enter_child t f n) n) b d x leaf (i || skips s.prunes b f n) l.2
         (sym (ap (λ o. option_or o (current_of (after (enter_child t f n) n) b d ns)) (finished_current n (enter_child t f n) (extend b f) d q)) ∙ e) z h)
         (λ q. let y = unfinished_current n (enter_child t f n) (extend b f) d q in
-        let j : y.0 ≡ leaf = leaf_is y.0 leaf (sym (ap (λ o. option_or o (current_of (after (enter_child t f n) n) b d ns)) y.1) ∙ e) in
+        let j : y.0 ≡ leaf = same_Some y.0 leaf (sym (ap (λ o. option_or o (current_of (after (enter_child t f n) n) b d ns)) y.1) ∙ e) in
         replaced_lawful n (enter_child t f n) (extend b f) d x leaf l.1 (y.1 ∙ ap Some j) z h)
       where
         m : Node
@@ -122,7 +120,7 @@ module _ (s : Setting) where
             rest false flag u = subst (λ v. AreLawful s u b v ns) (ap (λ v. v || false) (sym flag)) (open_lawful ns u b (l.3 q))
 
             open_rest : (w : Bool) → skips s.prunes b f m ≡ w → is_finished m ≡ false → are_open (cond w (skipping ns) ns) ≡ true
-            open_rest true e y = absurd (idle_finished (is_finished m) _ y (both_true (is_idle b f m (uses (extend b f) m)) s.prunes e).0)
+            open_rest true e y = absurd (idle_finished (is_finished m) _ y (and_parts (is_idle b f m (uses (extend b f) m)) s.prunes e).0)
             open_rest false e y = l.3 q
 
   skipping_picks : (ns : Children) → picks_all (skipping ns) ≡ []
@@ -220,7 +218,7 @@ module _ (s : Setting) where
         let z = replaced_in_height ns t b (d + 1) x leaf most e (omega arith) g in omega arith
     replaced_height (Node.closed c) t b d x leaf most e h g = h
     replaced_height Node.opened t b d x leaf most e h g =
-        let i : d ≡ leaf.above = ap (λ y. y.above) (leaf_is (record { branch = b; above = d; table = t }) leaf e) in omega arith
+        let i : d ≡ leaf.above = ap (λ y. y.above) (same_Some (record { branch = b; above = d; table = t }) leaf e) in omega arith
     replaced_height Node.skipped t b d x leaf most e h g = h
 
     pub replaced_in_height : (ns : Children) (t b : List Form) (d : ℕ) (x : Node) (leaf : Leaf) (most : ℕ) → current_of t b d ns ≡ Some leaf → d + height_all ns ≤ most
@@ -231,7 +229,7 @@ module _ (s : Setting) where
         (λ q. replaced_in_height ns (after (enter_child t f n) n) b d x leaf most
         (sym (ap (λ o. option_or o (current_of (after (enter_child t f n) n) b d ns)) (finished_current n (enter_child t f n) (extend b f) d q)) ∙ e) (omega arith) g)
         (λ q. let y = unfinished_current n (enter_child t f n) (extend b f) d q in
-        let j : y.0 ≡ leaf = leaf_is y.0 leaf (sym (ap (λ o. option_or o (current_of (after (enter_child t f n) n) b d ns)) y.1) ∙ e) in
+        let j : y.0 ≡ leaf = same_Some y.0 leaf (sym (ap (λ o. option_or o (current_of (after (enter_child t f n) n) b d ns)) y.1) ∙ e) in
         replaced_height n (enter_child t f n) (extend b f) d x leaf most (y.1 ∙ ap Some j) (omega arith) g)
       where
         m : Node
@@ -253,7 +251,7 @@ module _ (s : Setting) where
         → current t b d (replaced s.prunes b x n) ≡ current leaf.table leaf.branch leaf.above x
     replaced_current (Node.step k c a ns) t b d x leaf e z = replaced_in_current ns t b (d + 1) x leaf e z
     replaced_current (Node.closed c) t b d x leaf e z = absurd (let q = e in cc)
-    replaced_current Node.opened t b d x leaf e z = ap (λ y. current y.table y.branch y.above x) (leaf_is (record { branch = b; above = d; table = t }) leaf e)
+    replaced_current Node.opened t b d x leaf e z = ap (λ y. current y.table y.branch y.above x) (same_Some (record { branch = b; above = d; table = t }) leaf e)
     replaced_current Node.skipped t b d x leaf e z = absurd (let q = e in cc)
 
     pub replaced_in_current : (ns : Children) (t b : List Form) (d : ℕ) (x : Node) (leaf : Leaf) → current_of t b d ns ≡ Some leaf → is_finished x ≡ false
@@ -264,7 +262,7 @@ module _ (s : Setting) where
         (λ q. replaced_in_current ns (after (enter_child t f n) n) b d x leaf
         (sym (ap (λ o. option_or o (current_of (after (enter_child t f n) n) b d ns)) (finished_current n (enter_child t f n) (extend b f) d q)) ∙ e) z)
         (λ q. let y = unfinished_current n (enter_child t f n) (extend b f) d q in
-        let j : y.0 ≡ leaf = leaf_is y.0 leaf (sym (ap (λ o. option_or o (current_of (after (enter_child t f n) n) b d ns)) y.1) ∙ e) in
+        let j : y.0 ≡ leaf = same_Some y.0 leaf (sym (ap (λ o. option_or o (current_of (after (enter_child t f n) n) b d ns)) y.1) ∙ e) in
         replaced_current n (enter_child t f n) (extend b f) d x leaf (y.1 ∙ ap Some j) z)
       where
         m : Node

@@ -1,12 +1,13 @@
 -- An offer is a rule of the calculus: with a derivation for each child's raw formulas added, it gives one.
 use Rattle.std.proofs.Common.{◌≡◌, ℕ, Bool, true, false, not, refl, sym, subst, ◌∙◌, List, [], ◌∷◌, ◌++◌, inl, inr, Contains, Some}
 use Rattle.std.proofs.lemmas.List.Elements.{Contains-append_right}
+use Rattle.std.proofs.lemmas.Bool.{and_from, or_left}
 use Rattle.zm_logic.specs.Tree.{Tys, Term, Terms, Form, Connective, Symbol, differ}
 use Rattle.zm_logic.specs.Parameter.{IsFresh, IsFreshForAll, Never}
 use Rattle.zm_logic.specs.Typing.{HaveTypes, WellTyped, symbol_at, argument_types}
 use Rattle.zm_logic.specs.Calculus.{Derives, DerivesEach, differ_each}
 use Rattle.zm_logic.specs.Same.{has}
-use Rattle.zm_logic.proofs.Sames.{Contains-here, Contains-there, Contains-cases, only, contains-has, and_true, or_left}
+use Rattle.zm_logic.proofs.Sames.{Contains-here, Contains-there, Contains-cases, only, contains-has}
 use Rattle.param_store.specs.RawOffers.{Act, one, split, number_of, own_part, at_part}
 use Rattle.equality_rules.specs.Equality.{singles, unequal}
 use Rattle.branch.specs.Setting.{Setting}
@@ -17,7 +18,7 @@ use Rattle.branch.specs.Offers.{Child, Offer, has_all, has_some, normals, is_use
 use Rattle.branch.specs.Tableau.{acted}
 use Rattle.branch.specs.Offered.{Offered}
 use Rattle.branch.specs.Introduced.{Above}
-use Rattle.branch.proofs.Inverted.{well_typed_negation, well_typed_atom, well_typed_left, well_typed_right}
+use Rattle.zm_logic.proofs.Inverted.{well_typed_negation, well_typed_atom, well_typed_left, well_typed_right}
 use Rattle.branch.proofs.Made.{AreReached, AreMade, raws}
 use Rattle.branch.proofs.Kept.{normal_keeps, one_normal}
 use Rattle.branch.proofs.Opened.{shape, own_derives}
@@ -54,7 +55,7 @@ unequal_derive : (s : Setting) (gamma : List Form) (p : ℕ) (x : Symbol) (ts : 
 unequal_derive s gamma p x ts us vs e d =
     singles_derive s gamma (differ_each (argument_types x ts) us vs) (subst (λ z. ProvesAll s (unequal z ts us vs) gamma) e d)
 
-fresh_for_all : (n : ℕ) (gamma : List Form) → ((f : Form) → Contains gamma f → IsFresh n f) → IsFreshForAll n gamma
+pub fresh_for_all : (n : ℕ) (gamma : List Form) → ((f : Form) → Contains gamma f → IsFresh n f) → IsFreshForAll n gamma
 fresh_for_all n [] h = tt
 fresh_for_all n (f ∷ fs) h = (h f (Contains-here f fs), fresh_for_all n fs (λ g m. h g (Contains-there f fs g m)))
 
@@ -75,7 +76,7 @@ useful_is_new s sound b ds made o same useful x g e w n h = go ds made (subst (�
         let i : one x ≡ c.raw = cc in
         let r = reached_one s x c.normal (subst (λ y. AreReached s y c.normal) (sym i) m.0) in
         let j : g ≡ r.0 = one_normal s sound x g r.0 w n r.2 in
-        let k : has_all b c.normal ≡ true = subst (λ y. has_all b y ≡ true) (sym r.1) (and_true (has b r.0) true (contains-has b r.0 (subst (Contains b) j h)) refl) in
+        let k : has_all b c.normal ≡ true = subst (λ y. has_all b y ≡ true) (sym r.1) (and_from (has b r.0) true (contains-has b r.0 (subst (Contains b) j h)) refl) in
         not_useful (has_some b (normals (c ∷ cs))) (or_left (has_all b c.normal) (has_some b (normals cs)) k) u
 
 module _ (s : Setting) (sound : IsSound s) (table : List Form) (above : List Above) (b sequent : List Form) (is : IsBranch s table above b sequent) where

@@ -1,9 +1,10 @@
 -- Sizes of trees, counted up to the greatest u64, and as they are kept.
-use Rattle.std.proofs.Common.{ℕ, zero, suc, ◌≡◌, ◌+◌, ◌-◌, ◌^◌, ◌<◌, ◌≤◌, min, cond, Some, List, [], ◌∷◌, ◌++◌, length, take, get_or, nat_eq, refl, ap, sym, subst, ◌∙◌, inl, inr, arith}
+use Rattle.std.proofs.Common.{ℕ, ◌≡◌, ◌+◌, ◌-◌, ◌^◌, ◌<◌, min, cond, Some, List, [], ◌∷◌, ◌++◌, length, take, get_or, nat_eq, refl, ap, sym, subst, ◌∙◌, inl, inr, arith}
 use Rattle.std.specs.List.{fold, sum_by}
 use Rattle.std.specs.Map.{lookup}
 use Rattle.std.proofs.lemmas.Bool.Decides.{eqb_tells}
 use Rattle.std.proofs.lemmas.List.{take_more}
+use Rattle.term_store.proofs.Equal.{same_type, same_term, same_form}
 use Rattle.indexmap.specs.IndexMap.{IndexMap, get}
 use Rattle.zm_logic.specs.Tree as tree
 use Rattle.zm_logic.specs.Measure.{type_size, types_size, term_size, terms_size, size}
@@ -66,13 +67,6 @@ lists_size_more s lists j d l = rw (take_more lists j d l) (pushed (take j lists
     pushed [] x = omega arith
     pushed (y ∷ ys) x = omega (arith, pushed ys x)
 
--- the list up to its end, or beyond
-pub take_over : {X : Type 0} (xs : List X) (j : ℕ) → length xs ≤ j → take j xs ≡ xs
-take_over [] zero h = refl
-take_over [] (suc j) h = refl
-take_over (x ∷ xs) zero h = absurd (omega arith)
-take_over (x ∷ xs) (suc j) h = ap (λ ys. x ∷ ys) (take_over xs j (omega arith))
-
 -- the size of children that are their own normal forms
 forms_total : (a : ℕ) (fs : List tree.Form) → fold (λ n f. n + size f) a fs ≡ a + forms_size fs
 forms_total a [] = omega arith
@@ -106,22 +100,13 @@ nothing_kept s kept e f g = record {
 }
 
 -- one size more is kept
-type_id : (i j : TyId) → i.0 ≡ j.0 → i ≡ j
-type_id i j e = ap (λ (n : ℕ). record { 0 = n }) e
-
-term_id : (i j : TermId) → i.0 ≡ j.0 → i ≡ j
-term_id i j e = ap (λ (n : ℕ). record { 0 = n }) e
-
-form_id : (i j : FormId) → i.0 ≡ j.0 → i ≡ j
-form_id i j e = ap (λ (n : ℕ). record { 0 = n }) e
-
 pub type_kept : {S : Type 0} (P : TyId → ℕ → Type 0) (old new : IndexMap TyId ℕ S) (k : TyId) (r : ℕ)
     → ((q : TyId) → get (λ x y. nat_eq x.0 y.0) new q ≡ cond (nat_eq k.0 q.0) (Some r) (get (λ x y. nat_eq x.0 y.0) old q))
     → ((i : TyId) (j : ℕ) → get (λ x y. nat_eq x.0 y.0) old i ≡ Some j → P i j) → P k r
     → (i : TyId) (j : ℕ) → get (λ x y. nat_eq x.0 y.0) new i ≡ Some j → P i j
 type_kept P old new k r u h p i j e =
     elim (eqb_tells k.0 i.0) [
-      | inl x ↦ (let f : k ≡ i = type_id k i x.1 in
+      | inl x ↦ (let f : k ≡ i = same_type k i x.1 in
           let g = sym e ∙ u i ∙ ap (λ b. cond b (Some r) (get (λ x y. nat_eq x.0 y.0) old i)) x.0 in
           let w : j ≡ r = cc in
           subst (λ z. P z j) f (subst (P k) (sym w) p))
@@ -134,7 +119,7 @@ pub term_kept : {S : Type 0} (P : TermId → ℕ → Type 0) (old new : IndexMap
     → (i : TermId) (j : ℕ) → get (λ x y. nat_eq x.0 y.0) new i ≡ Some j → P i j
 term_kept P old new k r u h p i j e =
     elim (eqb_tells k.0 i.0) [
-      | inl x ↦ (let f : k ≡ i = term_id k i x.1 in
+      | inl x ↦ (let f : k ≡ i = same_term k i x.1 in
           let g = sym e ∙ u i ∙ ap (λ b. cond b (Some r) (get (λ x y. nat_eq x.0 y.0) old i)) x.0 in
           let w : j ≡ r = cc in
           subst (λ z. P z j) f (subst (P k) (sym w) p))
@@ -147,7 +132,7 @@ pub form_kept : {S : Type 0} (P : FormId → ℕ → Type 0) (old new : IndexMap
     → (i : FormId) (j : ℕ) → get (λ x y. nat_eq x.0 y.0) new i ≡ Some j → P i j
 form_kept P old new k r u h p i j e =
     elim (eqb_tells k.0 i.0) [
-      | inl x ↦ (let f : k ≡ i = form_id k i x.1 in
+      | inl x ↦ (let f : k ≡ i = same_form k i x.1 in
           let g = sym e ∙ u i ∙ ap (λ b. cond b (Some r) (get (λ x y. nat_eq x.0 y.0) old i)) x.0 in
           let w : j ≡ r = cc in
           subst (λ z. P z j) f (subst (P k) (sym w) p))

@@ -1,7 +1,8 @@
 -- Without rules, a branch without quantifiers, equality and parameters has its useful alpha and beta formulas as its
 -- offers, and each of them can be made where no formula is too deep.
-use Rattle.std.proofs.Common.{◌≡◌, ℕ, ◌≤◌, Bool, true, false, not, refl, ap, sym, subst, ◌∙◌, arith, List, [], ◌∷◌, inl, inr, Contains, map, filter}
+use Rattle.std.proofs.Common.{◌≡◌, ℕ, ◌≤◌, true, false, refl, ap, sym, subst, ◌∙◌, arith, List, [], ◌∷◌, inl, inr, Contains, map, filter}
 use Rattle.std.proofs.lemmas.List.Elements.{All-contains, filter_passes}
+use Rattle.std.proofs.lemmas.Bool.{not-true, not-false}
 use Rattle.zm_logic.specs.Tree.{Form, Connective}
 use Rattle.zm_logic.specs.Measure.{depth}
 use Rattle.zm_logic.proofs.Sames.{Contains-here, Contains-there, Contains-cases, Contains-none}
@@ -74,14 +75,6 @@ map-there {A} {B} f (y ∷ xs) x h =
       | inr a ↦ Contains-there (f y) (map f xs) (f x) (map-there f xs x a)
     ]
 
-not_true : (v : Bool) → not v ≡ true → v ≡ false
-not_true true e = cc
-not_true false e = refl
-
-not_false : (v : Bool) → not v ≡ false → v ≡ true
-not_false true e = refl
-not_false false e = cc
-
 -- the formulas of a child are no deeper than the alpha or beta formula
 pub split_depth : (n : ℕ) (f : Form) → depth f ≤ n → AllIn (λ x. depth x ≤ n) (split f)
 split_depth n (Form.negation (Form.negation a)) h = ((omega arith, tt), tt)
@@ -112,7 +105,7 @@ split_offered b o m =
     let s = map-source split_offer (splits b) o (filter-kept (is_useful b) all o m) in
     let x = split_source b 0 s.0 s.1 in
     let e : normals o.children ≡ split x.form = ap (λ z. normals z.children) (sym s.2) ∙ (normals_unchanged s.0.raw.children ∙ sym x.children) in
-    let u = not_true (has_some b (normals o.children)) (All-contains (λ z. is_useful b z ≡ true) (filter (is_useful b) all) o (filter_passes (is_useful b) all) m) in
+    let u = not-true (has_some b (normals o.children)) (All-contains (λ z. is_useful b z ≡ true) (filter (is_useful b) all) o (filter_passes (is_useful b) all) m) in
     record { form = x.form; stands = x.stands; brings = e; some = λ z. x.some (sym x.children ∙ z); fresh = ap (has_some b) (sym e) ∙ u }
 
 -- where no alpha or beta formula of a branch is useful, a child of each stands there
@@ -120,7 +113,7 @@ pub settled_whole : (b : List Form) (f : Form) (c : List Form) (cs : List (List 
 settled_whole b f c cs e m p =
     let x = split_there b 0 f c cs m p in
     let u = filter-none (is_useful b) (map split_offer (splits b)) (split_offer x.0) e (map-there split_offer (splits b) x.0 x.1) in
-    ap (has_some b) (sym (normals_unchanged x.0.raw.children ∙ x.2)) ∙ not_false (has_some b (normals (map unchanged x.0.raw.children))) u
+    ap (has_some b) (sym (normals_unchanged x.0.raw.children ∙ x.2)) ∙ not-false (has_some b (normals (map unchanged x.0.raw.children))) u
 
 module _ (s : Setting) (unruled : s.rules ≡ []) where
   normal_itself : (f : Form) (x : Made Form) → Normalizes s f x → x ≡ Made.made f

@@ -1,54 +1,23 @@
 -- What a caller cites: nodes keep their trees in a store that has grown.
-use Rattle.std.proofs.Common.{◌≡◌, ℕ, zero, suc, refl, ap, List, [], ◌∷◌, Option, None, Some}
-use Rattle.std.specs.Option.{option_map}
-use Rattle.term_store.specs.declared.ids.FormId.{FormId}
-use Rattle.term_store.specs.declared.opening.Opening.{Opening}
-use Rattle.term_store.specs.Open.{part_of}
-use Rattle.term_store.specs.Trees.{Tables, form_of, Extends}
+use Rattle.std.proofs.Common.{◌≡◌, ℕ, zero, suc, refl, List, [], ◌∷◌}
+use Rattle.term_store.specs.Trees.{Tables, Extends}
 use Rattle.term_store.proofs.Kept.{still_form, kept_form}
-use Rattle.param_store.specs.declared.offer.Act.{Act}
-use Rattle.param_store.specs.View.{act_of, HasAct, HasForms, HasLists, HasSecond, HasWith}
-use Rattle.param_store.proofs.Stay.{part_still, part_stays, forms_still, forms_stay}
+use Rattle.param_store.specs.View.{HasForms, HasLists}
+use Rattle.param_store.proofs.Stay.{forms_still, forms_stay, second_still, second_stays, act_still, act_stays}
 use Rattle.branch.specs.declared.node.ClosingPair.{ClosingPair}
 use Rattle.branch.specs.Ids.{Node, Children, closing_of, tree_of, trees_of, HasClosing, HasNode, HasNodes}
 use Rattle.branch.specs.Path.{put, put_in, along, along_in, brought, brought_in}
 
 module _ (s t : Tables) (e : Extends s t) where
-  second_still : (o : Option FormId) → HasSecond s o → HasSecond t o
-  second_still None h = tt
-  second_still (Some i) h = still_form s t e i h
-
-  second_stays : (o : Option FormId) → HasSecond s o → option_map (form_of t) o ≡ option_map (form_of s) o
-  second_stays None h = refl
-  second_stays (Some i) h = ap Some (kept_form s t e i h)
-
-  with_still : (o : Option Opening) → HasWith s o → HasWith t o
-  with_still None h = tt
-  with_still (Some w) h = part_still s t e w h
-
-  with_stays : (o : Option Opening) → HasWith s o → option_map (part_of t) o ≡ option_map (part_of s) o
-  with_stays None h = refl
-  with_stays (Some w) h = ap Some (part_stays s t e w h)
-
-  act_still : (a : Act) → HasAct s a → HasAct t a
-  act_still a h = record { first = still_form s t e a.first h.first; second = second_still a.second h.second; part = with_still a.with h.part }
-
-  act_stays : (a : Act) → HasAct s a → act_of t a ≡ act_of s a
-  act_stays a h =
-      let f = kept_form s t e a.first h.first in
-      let g = second_stays a.second h.second in
-      let w = with_stays a.with h.part in
-      cc
-
   pub closing_still : (p : ClosingPair) → HasClosing s p → HasClosing t p
-  closing_still p h = record { first = still_form s t e p.first h.first; second = second_still p.second h.second }
+  closing_still p h = record { first = still_form s t e p.first h.first; second = second_still s t e p.second h.second }
 
   pub closing_stays : (p : ClosingPair) → HasClosing s p → closing_of t p ≡ closing_of s p
-  closing_stays p h = let f = kept_form s t e p.first h.first in let g = second_stays p.second h.second in cc
+  closing_stays p h = let f = kept_form s t e p.first h.first in let g = second_stays s t e p.second h.second in cc
 
   mutual
     pub node_still : (n : Node) → HasNode s n → HasNode t n
-    node_still (Node.step k c a ns) h = (act_still a h.0, nodes_still ns h.1)
+    node_still (Node.step k c a ns) h = (act_still s t e a h.0, nodes_still ns h.1)
     node_still (Node.closed p) h = closing_still p h
     node_still Node.opened h = tt
     node_still Node.skipped h = tt
@@ -59,7 +28,7 @@ module _ (s t : Tables) (e : Extends s t) where
 
   mutual
     pub tree_stays : (n : Node) → HasNode s n → tree_of t n ≡ tree_of s n
-    tree_stays (Node.step k c a ns) h = let x = act_stays a h.0 in let y = trees_stay ns h.1 in cc
+    tree_stays (Node.step k c a ns) h = let x = act_stays s t e a h.0 in let y = trees_stay ns h.1 in cc
     tree_stays (Node.closed p) h = let x = closing_stays p h in cc
     tree_stays Node.opened h = refl
     tree_stays Node.skipped h = refl

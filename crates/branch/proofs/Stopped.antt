@@ -1,5 +1,6 @@
 -- A tree stops for one cause.
 use Rattle.std.proofs.Common.{◌≡◌, ℕ, ◌+◌, refl, ap, sym, subst, ◌∙◌, arith, List, [], ◌∷◌, ◌++◌, inl, inr, Some}
+use Rattle.std.proofs.lemmas.Option.{same_Some}
 use Rattle.zm_logic.specs.Tree.{Form}
 use Rattle.zm_logic.proofs.Sames.{Contains-here, Contains-there}
 use Rattle.branch.specs.Branch.{extend}
@@ -22,14 +23,11 @@ module _ (P : List Form → List Above → List Form → Type 0) where
   abbrev AtLeaf : Leaf → Type 0
   AtLeaf leaf = (above : List Above) × P leaf.table above leaf.branch
 
-  leaf_is : (x y : Leaf) → Some x ≡ Some y → x ≡ y
-  leaf_is x y e = cc
-
   mutual
     pub at_current : (n : Node) (t : List Form) (above : List Above) (b : List Form) (d : ℕ) (leaf : Leaf) → EachBranch P t above b n → current t b d n ≡ Some leaf → AtLeaf leaf
     at_current (Node.step k c a ns) t above b d leaf h e = at_current_of ns t (record { kind = c; act = a } ∷ above) b (d + 1) leaf h.1 e
     at_current (Node.closed c) t above b d leaf h e = cc
-    at_current Node.opened t above b d leaf h e = subst AtLeaf (leaf_is (record { branch = b; above = d; table = t }) leaf e) (above, h)
+    at_current Node.opened t above b d leaf h e = subst AtLeaf (same_Some (record { branch = b; above = d; table = t }) leaf e) (above, h)
     at_current Node.skipped t above b d leaf h e = cc
 
     pub at_current_of : (ns : Children) (t : List Form) (above : List Above) (b : List Form) (d : ℕ) (leaf : Leaf) → EachBelow P t above b ns → current_of t b d ns ≡ Some leaf → AtLeaf leaf

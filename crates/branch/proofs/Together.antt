@@ -1,6 +1,6 @@
 -- The entries of parts of a branch, one part after another.
 use Rattle.std.proofs.Common.{ℕ, zero, suc, ◌≡◌, ◌+◌, ◌<◌, ◌≤◌, Bool, false, List, [], ◌∷◌, ◌++◌, length, take, drop, append_assoc, append-nil, refl, ap, sym, subst, ◌∙◌, arith}
-use Rattle.std.proofs.lemmas.List.{take_more}
+use Rattle.std.proofs.lemmas.List.{take_more, take-append-drop, length-take-le}
 use Rattle.std.proofs.Math.Seq.{take-length}
 use Rattle.zm_logic.specs.Tree.{Form}
 use Rattle.branch.specs.Setting.{Setting}
@@ -16,16 +16,6 @@ take_split zero j xs h = refl
 take_split (suc n) zero xs h = absurd (omega arith)
 take_split (suc n) (suc j) [] h = refl
 take_split (suc n) (suc j) (x ∷ xs) h = ap (λ ys. x ∷ ys) (take_split n j xs (omega arith))
-
-take_drop : {X : Type 0} (n : ℕ) (xs : List X) → take n xs ++ drop n xs ≡ xs
-take_drop zero xs = refl
-take_drop (suc n) [] = refl
-take_drop (suc n) (x ∷ xs) = ap (λ ys. x ∷ ys) (take_drop n xs)
-
-length_take : {X : Type 0} (n : ℕ) (xs : List X) → n ≤ length xs → length (take n xs) ≡ n
-length_take zero xs h = refl
-length_take (suc n) [] h = absurd (omega arith)
-length_take (suc n) (x ∷ xs) h = ap suc (length_take n xs (omega arith))
 
 module _ (s : Setting) (table : List Form) (v : Bool) where
   pub with_both : (j : ℕ) (f : Form) (hs : List Form) (zs : List Entry) {i : ℕ} {gs : List Form} {xs : List Entry} → PairsWith s table v j f i gs xs
@@ -67,7 +57,7 @@ module _ (s : Setting) (table branch : List Form) where
   pair_more j n zs es l h k =
       let f = form_at branch j in
       let g = form_at branch n in
-      let e : 0 + length (take n branch) ≡ n = (let r = length_take n branch (omega arith) in omega (arith, r)) in
+      let e : 0 + length (take n branch) ≡ n = (let r = length-take-le n branch (omega arith) in omega (arith, r)) in
       let p = subst (λ m. PairsWith s table false j f m (g ∷ []) es) (sym e) (one_pair s table false j n g f es k) in
       subst (λ gs. PairsWith s table false j f 0 gs (zs ++ es)) (sym (take_more branch n Form.truth l)) (with_both s table false j f (g ∷ []) es h p)
 
@@ -86,7 +76,7 @@ module _ (s : Setting) (table branch : List Form) where
       let f = form_at branch j in
       let gs = take j branch in
       let o = k.are_others in
-      let e : length gs ≡ j = length_take j branch (omega arith) in
+      let e : length gs ≡ j = length-take-le j branch (omega arith) in
       let p = place_at s table false gs f o.single o.pairs j e o.are_single o.are_pairs in
       let q : own_entries table j f ++ (o.single ++ o.pairs) ≡ es = ap (λ xs. own_entries table j f ++ xs) (sym o.all) ∙ sym k.all in
       subst (λ hs. EntriesFrom s table false [] hs (zs ++ es)) (sym (take_more branch j Form.truth l))
@@ -145,7 +135,7 @@ module _ (s : Setting) (table branch : List Form) where
       has_fault n e h =
           let r = rest ([] ++ take n branch) (drop n branch) in
           let whole = from_both s table false (drop n branch) r.0 h.are r.1 in
-          let all = subst (λ fs. EntriesFrom s table false [] fs (h.entries ++ r.0)) (take_drop n branch) whole in
+          let all = subst (λ fs. EntriesFrom s table false [] fs (h.entries ++ r.0)) (take-append-drop n branch) whole in
           record {
             entries = h.entries ++ r.0;
             raw = subst (λ v. EntriesFrom s table v [] branch (h.entries ++ r.0)) (sym e) all;

@@ -2,6 +2,8 @@
 use Rattle.std.proofs.Common.{ℕ, ◌≡◌, ◌<◌, ◌≤◌, ◌⊎◌, Option, List, [], ◌∷◌, ◌++◌, map, filter, inl, inr, refl, ap, sym, subst, ◌∙◌, arith}
 use Rattle.std.proofs.lemmas.Bool.Decides.{leb_tells}
 use Rattle.std.proofs.lemmas.List.Elements.{filter-append}
+use Rattle.branch.proofs.Determined.{fault_is}
+use Rattle.branch.proofs.Kept.{made_is}
 use Rattle.zm_logic.specs.Tree.{Form, Side}
 use Rattle.zm_logic.specs.Measure.{depth}
 use Rattle.param_store.specs.RawOffers.{Raw}
@@ -90,12 +92,6 @@ module _ (s : Setting) (plain : s.rules ≡ []) (j : ℕ) (i : Option ℕ) where
       MakesAll.later (offer_made s plain x.act.first Kind.instance j i x (omega arith)) (instances_deep xs r after (omega arith) d)
 
 -- one list of entries after another
-made_is : {A : Type 0} (x y : A) → Made.made x ≡ Made.made y → x ≡ y
-made_is x y e = cc
-
-fault_is : {A : Type 0} (d e : Fault) → ◌≡◌ {A = Made A} (Made.fault d) (Made.fault e) → d ≡ e
-fault_is d e p = cc
-
 module _ {A B : Type 0} (Makes : A → Made B → Type 0) where
   all_both : (xs zs : List A) (ys ws : List B) {m : Made (List B)} → MakesAll Makes xs m → m ≡ Made.made ys → MakesAll Makes zs (Made.made ws)
       → MakesAll Makes (xs ++ zs) (Made.made (ys ++ ws))

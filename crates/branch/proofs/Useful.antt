@@ -1,13 +1,10 @@
 -- Which raw offers are left: formulas stand on a branch as their ids do.
-use Rattle.std.proofs.Common.{ℕ, zero, suc, ◌≡◌, ◌+◌, ◌<◌, ◌≤◌, Bool, true, false, ◌&&◌, ◌||◌, not, cond, nat_eq, Option, List, [], ◌∷◌, ◌++◌, length, take, drop, get_or, map, filter, append-nil, refl, ap, sym, subst, ◌∙◌, inl, inr, arith}
-use Rattle.std.specs.List.{list_any}
-use Rattle.std.proofs.lemmas.Bool.Decides.{eqb_tells}
-use Rattle.std.proofs.lemmas.List.{take_more, drop_more}
+use Rattle.std.proofs.Common.{ℕ, zero, suc, ◌≡◌, ◌+◌, ◌<◌, ◌≤◌, Bool, true, false, ◌&&◌, ◌||◌, not, cond, Option, List, [], ◌∷◌, ◌++◌, length, take, drop, get_or, map, filter, append-nil, refl, ap, sym, subst, ◌∙◌, arith}
+use Rattle.std.proofs.lemmas.List.{take_more, drop_more, map-append}
 use Rattle.std.proofs.lemmas.List.Elements.{filter-append}
 use Rattle.zm_logic.specs.Tree.{Form}
-use Rattle.zm_logic.specs.Same.{same, has}
-use Rattle.zm_logic.proofs.Sames.{same-self, same-true}
-use Rattle.term_store.specs.Trees.{Tables, AreShared, HasForm, form_of}
+use Rattle.zm_logic.specs.Same.{has}
+use Rattle.term_store.specs.Trees.{Tables, HasForm, form_of}
 use Rattle.term_store.specs.declared.ids.FormId.{FormId}
 use Rattle.param_store.specs.RawOffers.{Raw}
 use Rattle.param_store.specs.View.{forms_of, lists_of, raw_of, HasForms, HasLists, HasRaw, HasRaws}
@@ -18,29 +15,6 @@ use Rattle.branch.specs.Offers.{Offer, has_all, has_some, normals, is_useful}
 use Rattle.branch.specs.Left.{unchanged, offer_at, offers_at}
 use Rattle.branch.specs.Listed.{IsListed, AreListed, listed_of}
 use Rattle.branch.proofs.Lasting.{listed_push}
-
-not_true : (b : Bool) → (b ≡ true → ⊥) → b ≡ false
-not_true true h = absurd (h refl)
-not_true false h = refl
-
-id_of : (f g : FormId) → f.0 ≡ g.0 → f ≡ g
-id_of f g e = ap (λ (n : ℕ). record { 0 = n }) e
-
-module _ (s : Tables) (shared : AreShared s) where
-  same_ids : (g f : FormId) → HasForm s g → HasForm s f → nat_eq g.0 f.0 ≡ same (form_of s g) (form_of s f)
-  same_ids g f k h = elim (eqb_tells g.0 f.0) [
-    | inl x ↦ x.0 ∙ sym (subst (λ i. same (form_of s g) (form_of s i) ≡ true) (id_of g f x.1) (same-self (form_of s g)))
-    | inr x ↦ x.0 ∙ sym (not_true _ (λ e. x.1 (ap (λ i. i.0) (shared.forms g f k h (same-true _ _ e)))))
-  ]
-
-  -- an id stands in a list as its tree in that of the trees
-  pub stands : (ids : List FormId) (f : FormId) → HasForms s ids → HasForm s f
-      → list_any (λ (g : FormId). nat_eq g.0 f.0) ids ≡ has (forms_of s ids) (form_of s f)
-  stands [] f h k = refl
-  stands (g ∷ ids) f h k = either (same_ids g f h.0 k) (stands ids f h.1 k)
-    where
-      either : {a b c d : Bool} → a ≡ b → c ≡ d → (a || c) ≡ (b || d)
-      either {a} {b} {c} {d} p q = ap (λ x. x || c) p ∙ ap (λ x. b || x) q
 
 module _ (s : Tables) (b : List Form) where
   -- the formulas of a child from a place on, and the children from a place on
@@ -112,19 +86,15 @@ module _ (b : List Form) (k : Kind) (j : ℕ) (i : Option ℕ) where
         (subst (AreListed s (os ++ offer_at k j i r ∷ [])) (sym q) (listed_push s os (offer_at k j i r) old l h m t))
 
   -- raw offers up to a place, and one more
-  map_both : {X Y : Type 0} (f : X → Y) (xs ys : List X) → map f (xs ++ ys) ≡ map f xs ++ map f ys
-  map_both f [] ys = refl
-  map_both f (x ∷ xs) ys = ap (λ zs. f x ∷ zs) (map_both f xs ys)
-
   offers_both : (rs qs : List Raw) → offers_at b k j i (rs ++ qs) ≡ offers_at b k j i rs ++ offers_at b k j i qs
-  offers_both rs qs = ap (filter (is_useful b)) (map_both (offer_at k j i) rs qs) ∙ filter-append (is_useful b) (map (offer_at k j i) rs) (map (offer_at k j i) qs)
+  offers_both rs qs = ap (filter (is_useful b)) (map-append (offer_at k j i) rs qs) ∙ filter-append (is_useful b) (map (offer_at k j i) rs) (map (offer_at k j i) qs)
 
   pub offers_more : (s : Tables) (raws : List RawOffer) (n : ℕ) (d : RawOffer) → n < length raws
       → offers_at b k j i (map (raw_of s) (take (n + 1) raws))
       ≡ offers_at b k j i (map (raw_of s) (take n raws)) ++ offers_at b k j i (raw_of s (get_or raws n d) ∷ [])
   offers_more s raws n d l =
       ap (λ xs. offers_at b k j i (map (raw_of s) xs)) (take_more raws n d l)
-      ∙ ap (offers_at b k j i) (map_both (raw_of s) (take n raws) (get_or raws n d ∷ []))
+      ∙ ap (offers_at b k j i) (map-append (raw_of s) (take n raws) (get_or raws n d ∷ []))
       ∙ offers_both (map (raw_of s) (take n raws)) (raw_of s (get_or raws n d) ∷ [])
 
 -- what is the store's at a place

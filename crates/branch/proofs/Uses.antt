@@ -1,11 +1,12 @@
 -- What a finished node uses, and what its children use beyond their new formulas.
 use Rattle.std.proofs.Common.{◌≡◌, Bool, true, false, cond, not, refl, ap, sym, subst, ◌∙◌, List, [], ◌∷◌, ◌⊎◌, inl, inr, Contains, filter}
 use Rattle.std.proofs.lemmas.List.Elements.{All-contains, filter_passes}
+use Rattle.std.proofs.lemmas.Bool.{and_parts}
 use Rattle.zm_logic.specs.Tree.{Form}
 use Rattle.zm_logic.specs.Same.{has}
 use Rattle.branch.specs.Branch.{extend}
 use Rattle.branch.specs.Tableau.{fresh, without, is_apart}
-use Rattle.zm_logic.proofs.Sames.{Contains-here, Contains-there, Contains-cases, Contains-none, both_true, has-contains, contains-has}
+use Rattle.zm_logic.proofs.Sames.{Contains-here, Contains-there, Contains-cases, Contains-none, has-contains, contains-has}
 use Rattle.branch.proofs.Lists.{filter-kept, filter-has}
 use Rattle.branch.proofs.Branches.{extend-cases}
 use Rattle.branch.proofs.Closings.{IsWithin}
@@ -25,10 +26,6 @@ kept_uses b f (u ∷ used) x h = go (has (fresh b f) u) refl (kept_uses b f used
       | inl i ↦ let Q : Form → Type 0 = λ y. Contains (u ∷ without (fresh b f) used) y in inr (subst Q i (Contains-here u (without (fresh b f) used)))
       | inr i ↦ elim (rest i) [ inl j ↦ inl j | inr j ↦ inr (Contains-there u (without (fresh b f) used) x j) ]
     ]
-
-pub not_true : (v : Bool) → not v ≡ true → v ≡ false
-not_true true e = cc
-not_true false e = refl
 
 pub filter-yes : (p : Form → Bool) (xs : List Form) (x : Form) → Contains (filter p xs) x → p x ≡ true
 filter-yes p xs x h = All-contains (λ y. p y ≡ true) (filter p xs) x (filter_passes p xs) h
@@ -55,7 +52,7 @@ beyond b f u w x h =
 pub apart : (fs u : List Form) (x : Form) → is_apart fs u ≡ true → Contains fs x → Contains u x → ⊥
 apart [] u x e h k = Contains-none x h
 apart (f ∷ fs) u x e h k =
-    let p = both_true (not (has u f)) (is_apart fs u) e in
+    let p = and_parts (not (has u f)) (is_apart fs u) e in
     elim (Contains-cases f fs x h) [
       | inl i ↦ let Q : Form → Type 0 = λ y. Contains u y in let q = contains-has u f (subst Q (sym i) k) in let r : not true ≡ true = ap not (sym q) ∙ p.0 in cc
       | inr i ↦ apart fs u x p.1 i k

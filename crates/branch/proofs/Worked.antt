@@ -1,6 +1,7 @@
 -- The worked examples, by their rules.
 use Rattle.std.proofs.Common.{◌≡◌, ◌≤◌, ℕ, zero, suc, Bool, true, false, refl, subst, arith, List, [], ◌∷◌, None, Some, Option, filter}
 use Rattle.std.specs.Prelude.{codes}
+use Rattle.equality_rules.proofs.Unifying.{no_unifier, one_of_forms}
 use Rattle.zm_logic.specs.Tree.{Ty, Form, Opening, Symbol, differ}
 use Rattle.zm_logic.specs.Measure.{depth}
 use Rattle.zm_logic.specs.Typing.{individual}
@@ -19,7 +20,6 @@ use Rattle.branch.specs.Offers.{Child, Offer, offer_of, MakesForm, MakesChild, M
 use Rattle.branch.specs.Worked as worked
 use Rattle.branch.specs.Worked.{plain, unary, constant, type_predicate, p, some_p, no_p, e0, m1, q, all_q, not_q, a, b, a_is_b}
 use Rattle.branch.proofs.NoRules.{itself}
-use Rattle.branch.proofs.Unifiers.{one_of_forms, forms_apart}
 
 -- an entry for an offer with one child of one formula
 abbrev entry : Kind → Act → Form → Form → ℕ → Option ℕ → Placed
@@ -246,7 +246,7 @@ module _ (n : ℕ) (v : Bool) where
   with_atom : PairEntries equal [] true 2 0 (p a) (Form.negation (p b)) (Entry.offer arguments ∷ [])
   with_atom =
       PairEntries.opposed (record { plain = p a; denied = p b; left = p a; right = p b }) refl
-      (BindingEntries.listed (λ made u. absurd (forms_apart (p a) (p b) constants_differ made u)) (InstancesOf.apart constants_differ))
+      (BindingEntries.listed (λ made u. absurd (no_unifier (p a) (p b) constants_differ made u)) (InstancesOf.apart constants_differ))
 
   equality_raw : AreRawOffers equal [] branch (Entry.offer arguments ∷ [])
   equality_raw =

@@ -19,8 +19,6 @@ mod start;
 mod stepping;
 mod stop;
 mod tableau;
-#[cfg(test)]
-mod tests;
 mod why;
 
 pub use node::{Child, ClosingPair, Node};

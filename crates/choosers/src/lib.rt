@@ -2,7 +2,5 @@
 #![tactic(auto)]
 
 mod offer;
-#[cfg(test)]
-mod tests;
 
 pub use offer::{Kind, Offer};

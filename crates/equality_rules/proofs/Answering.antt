@@ -1,6 +1,6 @@
 -- From the instances of two forms or two terms to what formulas of a branch offer.
 use Rattle.std.proofs.Common.{◌≡◌, ◌≢◌, ◌≤◌, Bool, true, false, cond, Option, None, Some, List, [], ◌++◌, option_map, append-nil, refl, ap, sym, subst, ◌∙◌, arith, Result, Ok, Err, IfOk, IfErr}
-use Rattle.std.proofs.lemmas.Option.{none-some, same_Some}
+use Rattle.std.proofs.lemmas.Option.{none-some, same_Some, cond_some}
 use Rattle.zm_logic.specs.Tree.{Ty, Term, Form, Side, Symbol, differ}
 use Rattle.term_store.specs.Trees.{Tables}
 use Rattle.param_store.specs.RawOffers.{Raw}
@@ -91,10 +91,6 @@ deep_as s P Q to (Ok rs) h = tt
 deep_as s P Q to (Err x) h = refused_as s P Q to x h
 
 -- opposites are alike
-cond_some : {X : Type 0} (b : Bool) (x o : X) → cond b (Some x) None ≡ Some o → (b ≡ true) × (x ≡ o)
-cond_some true x o e = (refl, same_Some x o e)
-cond_some false x o e = absurd (none-some o e)
-
 alike_by : (f g : Form) (d e : Option Form) (o : Opposites) → opposites_by f g d e ≡ Some o → alike o.left o.right ≡ true
 alike_by f g None None o h = absurd (none-some o h)
 alike_by f g None (Some b) o h =

@@ -1,5 +1,7 @@
 -- A term has a type where it is well typed and its head gives it the type.
-use Rattle.std.proofs.Common.{ℕ, ◌≡◌, Bool, true, false, ◌&&◌, ◌==◌, if◌then◌else◌, Option, None, Some, List, length, refl, ap, sym, subst, ◌∙◌, arith}
+use Rattle.std.proofs.Common.{ℕ, ◌≡◌, Bool, true, false, ◌&&◌, ◌==◌, if◌then◌else◌, Option, None, Some, List, refl, ap, sym, subst, ◌∙◌, arith}
+use Rattle.std.proofs.lemmas.Bool.{and_right}
+use Rattle.zm_logic.proofs.TypeInstances.{length_openings}
 use Rattle.zm_logic.specs.Tree.{Ty, Tys, Term, Terms, Symbol, Sense, Opening}
 use Rattle.zm_logic.specs.Opening.{type_at, open_type, open_types, openings, type_instance, types_instance}
 use Rattle.zm_logic.specs.Typing.{how_many, symbol_at, IsType, AreTypes}
@@ -9,7 +11,6 @@ use Rattle.equality_rules.specs.Typed as test
 use Rattle.equality_rules.specs.Typed.{is_type, are_types, has_type, have_types, makes}
 use Rattle.equality_rules.specs.Heads.{standing, instance_at, instances_at, is_function, takes, makes_at, result_is, arguments_at, head_is, heads_are, is_typed, are_typed}
 use Rattle.equality_rules.specs.Laws as laws
-use Rattle.equality_rules.proofs.Pairwise.{and_false}
 use Rattle.equality_rules.proofs.Typed.{types_true, term_true, term_is}
 
 -- a test of sameness either way round
@@ -37,10 +38,6 @@ module _ (symbols : List Symbol) (ts : Tys) where
     closed_themselves : (ss : Tys) → AreTypes symbols 0 ss → instances_at ts ss ≡ ss
     closed_themselves Tys.none h = refl
     closed_themselves (Tys.more s ss) h = ap (λ x. Tys.more x (instances_at ts ss)) (closed_itself s h.0) ∙ ap (Tys.more s) (closed_themselves ss h.1)
-
-openings_length : (ts : Tys) → length (openings ts) ≡ how_many ts
-openings_length Tys.none = refl
-openings_length (Tys.more t ts) = omega (arith, openings_length ts)
 
 -- one type is put in before the others, or all at once
 module _ (t : Ty) (ts : Tys) (same : instance_at ts t ≡ t) where
@@ -80,21 +77,21 @@ module _ (symbols : List Symbol) where
   pub instance_is : (ts : Tys) (r : Ty) → AreTypes symbols 0 ts → type_instance (openings ts) r ≡ instance_at ts r
   instance_is Tys.none r h = sym (none_type r)
   instance_is (Tys.more t ts) r h =
-      ap (λ n. type_instance (openings ts) (open_type n (Opening.of_type t) r)) (openings_length ts)
+      ap (λ n. type_instance (openings ts) (open_type n (Opening.of_type t) r)) (length_openings ts)
       ∙ instance_is ts (open_type (how_many ts) (Opening.of_type t) r) h.1
       ∙ put_first t ts (closed_itself symbols ts t h.0) r
 
   pub instances_are : (ts rs : Tys) → AreTypes symbols 0 ts → types_instance (openings ts) rs ≡ instances_at ts rs
   instances_are Tys.none rs h = sym (none_types rs)
   instances_are (Tys.more t ts) rs h =
-      ap (λ n. types_instance (openings ts) (open_types n (Opening.of_type t) rs)) (openings_length ts)
+      ap (λ n. types_instance (openings ts) (open_types n (Opening.of_type t) rs)) (length_openings ts)
       ∙ instances_are ts (open_types (how_many ts) (Opening.of_type t) rs) h.1
       ∙ puts_first t ts (closed_itself symbols ts t h.0) rs
 
   makes_sense : (s : Sense) (b : Bool) (ts : Tys) (t : Ty) → AreTypes symbols 0 ts
       → (b && test.result_is s ts t) ≡ ((is_function s && b) && makes_at s ts t)
-  makes_sense Sense.constructor b ts t h = and_false b
-  makes_sense Sense.predicate b ts t h = and_false b
+  makes_sense Sense.constructor b ts t h = and_right b false refl
+  makes_sense Sense.predicate b ts t h = and_right b false refl
   makes_sense (Sense.function r) b ts t h = ap (λ x. b && same_type x t) (instance_is ts r h)
 
   makes_is : (o : Option Symbol) (ts : Tys) (t : Ty) → AreTypes symbols 0 ts → makes o ts t ≡ (takes o (how_many ts) && result_is o ts t)
@@ -127,7 +124,7 @@ pieces : (m h k r y z t : Bool) → (t ≡ true → (m ≡ (k && r)) × (h ≡ (
 pieces m h k r y z true f =
     let p = f refl in
     ap (λ x. x && h) p.0 ∙ ap (λ x. (k && r) && x) p.1 ∙ shuffled k r y z
-pieces m h k r y z false f = and_false m ∙ sym (ap (λ x. x && r) (and_false (k && z)))
+pieces m h k r y z false f = (and_right m false refl) ∙ sym (ap (λ x. x && r) (and_right (k && z) false refl))
 
 module _ (symbols : List Symbol) where
   mutual
@@ -145,7 +142,7 @@ module _ (symbols : List Symbol) where
     heads_tell_all : (us : Terms) (ss : Tys) → have_types symbols us ss ≡ (are_typed symbols us && heads_are symbols us ss)
     heads_tell_all Terms.none Tys.none = refl
     heads_tell_all Terms.none (Tys.more s ss) = refl
-    heads_tell_all (Terms.more u us) Tys.none = sym (and_false (is_typed symbols u && are_typed symbols us))
+    heads_tell_all (Terms.more u us) Tys.none = sym (and_right (is_typed symbols u && are_typed symbols us) false refl)
     heads_tell_all (Terms.more u us) (Tys.more s ss) =
         ap (λ b. b && have_types symbols us ss) (heads_tell u s)
         ∙ ap (λ b. (is_typed symbols u && head_is symbols u s) && b) (heads_tell_all us ss)

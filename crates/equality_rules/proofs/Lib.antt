@@ -10,5 +10,4 @@ pub mod Offers
 pub mod Listing
 pub mod Unifying
 pub mod Bound
-pub mod Given
 pub mod Answering

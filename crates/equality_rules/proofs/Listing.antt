@@ -1,12 +1,12 @@
 -- The instances of bindings, one binding further.
 use Rattle.std.proofs.Common.{ℕ, zero, suc, ◌≡◌, ◌+◌, ◌<◌, ◌≤◌, Option, List, [], ◌∷◌, ◌++◌, All, length, take, drop, get_or, map, append_assoc, append-nil, refl, ap, sym, subst, ◌∙◌, arith}
-use Rattle.std.proofs.lemmas.List.{take_more}
+use Rattle.std.proofs.lemmas.List.{take_more, map-append}
 use Rattle.std.proofs.lemmas.List.Elements.{All-get_or}
+use Rattle.unify.proofs.Listed.{same_ids}
 use Rattle.zm_logic.specs.Tree as tree
 use Rattle.term_store.specs.Trees.{Tables, Extends}
 use Rattle.term_store.specs.declared.ids.FormId.{FormId}
 use Rattle.term_store.specs.declared.opening.Redex.{Redex}
-use Rattle.term_store.proofs.Kept.{still_type, still_term, kept_type, kept_term}
 use Rattle.param_store.specs.RawOffers.{Raw}
 use Rattle.param_store.specs.Depth.{deepest}
 use Rattle.param_store.specs.View.{forms_of, HasForms}
@@ -15,28 +15,14 @@ use Rattle.param_store.specs.View.{AreRaws}
 use Rattle.param_store.specs.declared.offer.RawOffer.{RawOffer}
 use Rattle.param_store.specs.declared.fault.OfferFault.{OfferFault}
 use Rattle.param_store.specs.declared.fault.OfferFault.TheVariants as faults
-use Rattle.param_store.proofs.Stay.{forms_stay}
+use Rattle.param_store.proofs.Stay.{forms_stay, are_raws_stay}
 use Rattle.unify.specs.Binding as made
 use Rattle.unify.specs.Answer.{HasIds}
 use Rattle.unify.specs.View.{binding_of}
 use Rattle.unify.specs.declared.binding.Binding.{Binding}
-use Rattle.unify.specs.declared.binding.Binding.TheVariants.{OfTerm, OfType}
 use Rattle.equality_rules.specs.Instances.{instance, instances}
 use Rattle.equality_rules.specs.Offered.{NamesInstance, IsOffer, listed}
-use Rattle.equality_rules.proofs.Offers.{names_among, are_raws_stay, raws_both, deepest_both}
-
--- a binding's ids stay while the store grows
-module _ (s t : Tables) (e : Extends s t) where
-  pub ids_still : (b : Binding) → HasIds s b → HasIds t b
-  ids_still (OfTerm m k u) h = (still_type s t e k h.0, still_term s t e u h.1)
-  ids_still (OfType m k) h = still_type s t e k h
-
-  pub binding_stays : (b : Binding) → HasIds s b → binding_of t b ≡ binding_of s b
-  binding_stays (OfTerm m k u) h =
-      let a = kept_type s t e k h.0 in
-      let b = kept_term s t e u h.1 in
-      cc
-  binding_stays (OfType m k) h = ap (made.Binding.of_type m) (kept_type s t e k h)
+use Rattle.equality_rules.proofs.Offers.{names_among, raws_both, deepest_both}
 
 module _ (symbols : List tree.Symbol) (table : List tree.Form) where
   pub instances_both : (bs cs : List made.Binding) → instances symbols table (bs ++ cs) ≡ instances symbols table bs ++ instances symbols table cs
@@ -52,10 +38,6 @@ split_at (x ∷ xs) zero d h = refl
 split_at (x ∷ xs) (suc i) d h =
     let z : suc i + 1 ≡ suc (i + 1) = omega arith in
     ap (λ ys. x ∷ ys) (split_at xs i d (omega arith)) ∙ ap (λ n. take (suc i) (x ∷ xs) ++ get_or (x ∷ xs) (suc i) d ∷ drop n (x ∷ xs)) (sym z)
-
-map_both : {X Y : Type 0} (f : X → Y) (xs ys : List X) → map f (xs ++ ys) ≡ map f xs ++ map f ys
-map_both f [] ys = refl
-map_both f (x ∷ xs) ys = ap (λ zs. f x ∷ zs) (map_both f xs ys)
 
 module _ (symbols : List tree.Symbol) (s : Tables) (ids : List FormId) (bindings : List Binding) where
   -- the instances of the bindings up to a place
@@ -76,7 +58,7 @@ module _ (symbols : List tree.Symbol) (s : Tables) (ids : List FormId) (bindings
     pub here_stays : listed_at t i d ≡ listed_at s i d
     here_stays =
         ap (λ table. instance symbols table (binding_of t (get_or bindings i d))) (forms_stay s t e ids has)
-        ∙ ap (instance symbols (forms_of s ids)) (binding_stays s t e (get_or bindings i d) has_here)
+        ∙ ap (instance symbols (forms_of s ids)) (same_ids s t e (get_or bindings i d) has_here)
 
     pub one_more : listed_to i ++ listed_at t i d ≡ listed_to (i + 1)
     one_more =
@@ -84,14 +66,14 @@ module _ (symbols : List tree.Symbol) (s : Tables) (ids : List FormId) (bindings
         let b = binding_of s (get_or bindings i d) in
         ap (λ xs. listed_to i ++ xs) (here_stays ∙ sym (append-nil (listed_at s i d)))
         ∙ sym (instances_both symbols table (map (binding_of s) (take i bindings)) (b ∷ []))
-        ∙ ap (instances symbols table) (sym (map_both (binding_of s) (take i bindings) (get_or bindings i d ∷ [])))
+        ∙ ap (instances symbols table) (sym (map-append (binding_of s) (take i bindings) (get_or bindings i d ∷ [])))
         ∙ ap (λ xs. instances symbols table (map (binding_of s) xs)) (sym (take_more bindings i d within))
 
     all_split : all_listed ≡ listed_to i ++ (listed_at s i d ++ instances symbols (forms_of s ids) (map (binding_of s) (drop (i + 1) bindings)))
     all_split =
         let table = forms_of s ids in
         ap (λ xs. instances symbols table (map (binding_of s) xs)) (split_at bindings i d within)
-        ∙ ap (instances symbols table) (map_both (binding_of s) (take i bindings) (get_or bindings i d ∷ drop (i + 1) bindings))
+        ∙ ap (instances symbols table) (map-append (binding_of s) (take i bindings) (get_or bindings i d ∷ drop (i + 1) bindings))
         ∙ instances_both symbols table (map (binding_of s) (take i bindings)) (map (binding_of s) (get_or bindings i d ∷ drop (i + 1) bindings))
 
     -- the first that is too deep is the first among all

@@ -1,10 +1,10 @@
 -- Offers over ids, one after the other.
 use Rattle.std.proofs.Common.{ℕ, zero, suc, ◌≡◌, ◌<◌, ◌≤◌, Option, None, Some, List, [], ◌∷◌, ◌++◌, slice_get, map, option_map, append_assoc, refl, ap, sym, subst, ◌∙◌, arith}
 use Rattle.std.proofs.lemmas.Option.{none-some, same_Some, slice_get-map}
+use Rattle.std.proofs.lemmas.List.{map-append}
 use Rattle.zm_logic.specs.Tree as tree
 use Rattle.zm_logic.specs.Measure.{depth}
 use Rattle.term_store.specs.Trees.{Tables, HasForm, form_of, Extends}
-use Rattle.term_store.specs.Open.{part_of}
 use Rattle.term_store.specs.declared.ids.FormId.{FormId}
 use Rattle.term_store.specs.declared.opening.Opening.{Opening}
 use Rattle.term_store.specs.declared.opening.Redex.{Redex}
@@ -13,77 +13,23 @@ use Rattle.term_store.proofs.Kept.{still_form, kept_form}
 use Rattle.param_store.specs.RawOffers as raw
 use Rattle.param_store.specs.Depth.{deepest}
 use Rattle.param_store.specs.Fault.{IfDeepAt}
-use Rattle.param_store.specs.View.{forms_of, act_of, raw_of, HasForms, HasSecond, HasWith, HasAct, HasRaw, HasRaws, AreRaws}
-use Rattle.param_store.specs.declared.offer.Act.{Act}
+use Rattle.param_store.specs.View.{forms_of, raw_of, HasForms, HasRaws, AreRaws}
 use Rattle.param_store.specs.declared.offer.RawOffer.{RawOffer}
 use Rattle.param_store.specs.declared.quantified.Quantified.{Quantified}
 use Rattle.param_store.specs.declared.fault.OfferFault.{OfferFault}
 use Rattle.param_store.specs.declared.fault.OfferFault.TheVariants as faults
-use Rattle.param_store.proofs.Stay.{part_still, part_stays, lists_still, lists_stay}
 use Rattle.equality_rules.specs.Instances.{opened_where, instance_of}
 use Rattle.equality_rules.specs.Offered.{HasSome, NamesInstance}
-
--- offers that were made stay while the store grows
-module _ (s t : Tables) (e : Extends s t) where
-  second_still : (o : Option FormId) → HasSecond s o → HasSecond t o
-  second_still None h = tt
-  second_still (Some i) h = still_form s t e i h
-
-  second_stays : (o : Option FormId) → HasSecond s o → option_map (form_of t) o ≡ option_map (form_of s) o
-  second_stays None h = refl
-  second_stays (Some i) h = ap Some (kept_form s t e i h)
-
-  with_still : (o : Option Opening) → HasWith s o → HasWith t o
-  with_still None h = tt
-  with_still (Some w) h = part_still s t e w h
-
-  with_stays : (o : Option Opening) → HasWith s o → option_map (part_of t) o ≡ option_map (part_of s) o
-  with_stays None h = refl
-  with_stays (Some w) h = ap Some (part_stays s t e w h)
-
-  act_still : (a : Act) → HasAct s a → HasAct t a
-  act_still a h = record { first = still_form s t e a.first h.first; second = second_still a.second h.second; part = with_still a.with h.part }
-
-  act_stays : (a : Act) → HasAct s a → act_of t a ≡ act_of s a
-  act_stays a h =
-      let f = kept_form s t e a.first h.first in
-      let g = second_stays a.second h.second in
-      let w = with_stays a.with h.part in
-      cc
-
-  raw_still : (r : RawOffer) → HasRaw s r → HasRaw t r
-  raw_still r h = record { act = act_still r.act h.act; children = lists_still s t e r.children h.children }
-
-  raw_stays : (r : RawOffer) → HasRaw s r → raw_of t r ≡ raw_of s r
-  raw_stays r h =
-      let a = act_stays r.act h.act in
-      let l = lists_stay s t e r.children h.children in
-      cc
-
-  raws_still : (rs : List RawOffer) → HasRaws s rs → HasRaws t rs
-  raws_still [] h = tt
-  raws_still (r ∷ rs) h = (raw_still r h.0, raws_still rs h.1)
-
-  raws_stay : (rs : List RawOffer) → HasRaws s rs → map (raw_of t) rs ≡ map (raw_of s) rs
-  raws_stay [] h = refl
-  raws_stay (r ∷ rs) h = ap (λ x. x ∷ map (raw_of t) rs) (raw_stays r h.0) ∙ ap (λ xs. raw_of s r ∷ xs) (raws_stay rs h.1)
-
-  pub are_raws_stay : (os : List raw.Raw) (rs : List RawOffer) → AreRaws s os rs → AreRaws t os rs
-  are_raws_stay os rs h = record { has = raws_still rs h.has; offers = raws_stay rs h.has ∙ h.offers }
 
 -- two lists of offers
 has_both : (s : Tables) (rs qs : List RawOffer) → HasRaws s rs → HasRaws s qs → HasRaws s (rs ++ qs)
 has_both s [] qs h k = k
 has_both s (r ∷ rs) qs h k = (h.0, has_both s rs qs h.1 k)
 
-map_both : (s : Tables) (rs qs : List RawOffer) → map (raw_of s) (rs ++ qs) ≡ map (raw_of s) rs ++ map (raw_of s) qs
-map_both s [] qs = refl
-map_both s (r ∷ rs) qs = ap (λ xs. raw_of s r ∷ xs) (map_both s rs qs)
-
 pub raws_both : (s : Tables) (os ps : List raw.Raw) (rs qs : List RawOffer) → AreRaws s os rs → AreRaws s ps qs → AreRaws s (os ++ ps) (rs ++ qs)
 raws_both s os ps rs qs h k = record {
   has = has_both s rs qs h.has k.has;
-  offers = map_both s rs qs ∙ ap (λ xs. xs ++ map (raw_of s) qs) h.offers ∙ ap (λ xs. os ++ xs) k.offers;
+  offers = (map-append (raw_of s) rs qs) ∙ ap (λ xs. xs ++ map (raw_of s) qs) h.offers ∙ ap (λ xs. os ++ xs) k.offers;
 }
 
 pub raws_none : (s : Tables) → AreRaws s [] []

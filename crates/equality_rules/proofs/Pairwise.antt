@@ -1,20 +1,7 @@
 -- A test on the members of two lists of one length, and a test on the members of one list, from one place on.
-use Rattle.std.proofs.Common.{ℕ, zero, suc, ◌≡◌, ◌+◌, ◌<◌, ◌≤◌, Bool, true, false, ◌&&◌, List, [], ◌∷◌, length, get_or, drop, refl, ap, ◌∙◌, arith}
-use Rattle.std.proofs.lemmas.List.{drop_more}
-
-pub and_false : (b : Bool) → (b && false) ≡ false
-and_false true = refl
-and_false false = refl
-
-pub and_true_is : (b : Bool) → (b && true) ≡ b
-and_true_is true = refl
-and_true_is false = refl
-
-drop_all : {X : Type 0} (i : ℕ) (xs : List X) → length xs ≤ i → drop i xs ≡ []
-drop_all zero [] h = refl
-drop_all zero (x ∷ xs) h = absurd (omega arith)
-drop_all (suc i) [] h = refl
-drop_all (suc i) (x ∷ xs) h = drop_all i xs (omega arith)
+use Rattle.std.proofs.Common.{ℕ, suc, ◌≡◌, ◌+◌, ◌<◌, ◌≤◌, Bool, true, false, ◌&&◌, List, [], ◌∷◌, length, get_or, drop, refl, ap, ◌∙◌}
+use Rattle.std.proofs.lemmas.List.{drop_more, drop_all}
+use Rattle.std.proofs.lemmas.Bool.{and_right}
 
 module _ {X Y : Type 0} (test : X → Y → Bool) where
   abbrev pub pairwise : List X → List Y → Bool
@@ -35,7 +22,7 @@ module _ {X Y : Type 0} (test : X → Y → Bool) where
   pairs_unequal [] [] h = absurd (h refl)
   pairs_unequal [] (y ∷ ys) h = refl
   pairs_unequal (x ∷ xs) [] h = refl
-  pairs_unequal (x ∷ xs) (y ∷ ys) h = ap (λ b. test x y && b) (pairs_unequal xs ys (λ e. h (ap suc e))) ∙ and_false (test x y)
+  pairs_unequal (x ∷ xs) (y ∷ ys) h = ap (λ b. test x y && b) (pairs_unequal xs ys (λ e. h (ap suc e))) ∙ (and_right (test x y) false refl)
 
   pub pairs_end : (xs : List X) (ys : List Y) (i : ℕ) → length xs ≤ i → length ys ≤ i → pairwise (drop i xs) (drop i ys) ≡ true
   pairs_end xs ys i h k = rw (drop_all i xs h, drop_all i ys k)

@@ -9,8 +9,6 @@ mod instances;
 pub mod laws;
 mod matching;
 mod pairs;
-#[cfg(test)]
-mod tests;
 mod typing;
 
 pub use pairs::{pair_offers, single_offers};

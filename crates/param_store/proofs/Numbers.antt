@@ -1,11 +1,12 @@
 -- Numbers: places in the table of ids, and in the table of the trees.
 use Rattle.std.proofs.Common.{ℕ, zero, suc, ◌≡◌, ◌+◌, Bool, true, false, not, cond, if◌then◌else◌, Option, None, Some, IfSome, List, [], ◌∷◌, ◌++◌, length, slice_get, refl, ap, sym, subst, ◌∙◌, inl, inr, arith}
 use Rattle.std.specs.List.{list_any, position_or_len, AllByRecursion, IsDistinct}
-use Rattle.std.proofs.lemmas.Bool.{eq-eqb}
+use Rattle.std.proofs.lemmas.Bool.{eq-eqb, false_from_ne_true}
 use Rattle.std.proofs.lemmas.Bool.Decides.{eqb_tells}
 use Rattle.std.proofs.lemmas.Option.{slice_get_within}
 use Rattle.std.proofs.lemmas.List.Folds.{position_or_len_push}
 use Rattle.std.proofs.lemmas.Map.Keys.{IsDistinct-head, IsDistinct-tail}
+use Rattle.term_store.proofs.Equal.{same_form}
 use Rattle.zm_logic.specs.Same.{same}
 use Rattle.zm_logic.proofs.Sames.{same-self, same-true}
 use Rattle.term_store.specs.Trees.{Tables, AreShared, HasForm, form_of}
@@ -21,9 +22,6 @@ position_step p x xs = by (p x) (position_or_len p xs)
     by : (b : Bool) (n : ℕ) → cond (not b) (1 + n) 0 ≡ cond b 0 (1 + n)
     by true n = refl
     by false n = refl
-
-id_of : (f g : FormId) → f.0 ≡ g.0 → f ≡ g
-id_of f g e = ap (λ (n : ℕ). record { 0 = n }) e
 
 pub same_id_self : (f : FormId) → same_id f f ≡ true
 same_id_self f = eq-eqb f.0 f.0 refl
@@ -70,7 +68,7 @@ number_with ids f = by (list_any (same_id f) ids)
     by true = refl
     by false = pushed
 
-has_push : (s : Tables) (ids : List FormId) (f : FormId) → HasForms s ids → HasForm s f → HasForms s (ids ++ f ∷ [])
+pub has_push : (s : Tables) (ids : List FormId) (f : FormId) → HasForms s ids → HasForm s f → HasForms s (ids ++ f ∷ [])
 has_push s [] f h k = (k, tt)
 has_push s (i ∷ is) f h k = (h.0, has_push s is f h.1 k)
 
@@ -82,15 +80,11 @@ has_with s ids f h k = by (list_any (same_id f) ids)
     by false = has_push s ids f h k
 
 -- ids are the same where their trees are
-not_true : (b : Bool) → (b ≡ true → ⊥) → b ≡ false
-not_true true h = absurd (h refl)
-not_true false h = refl
-
 module _ (s : Tables) (shared : AreShared s) where
   pub same_is : (f g : FormId) → HasForm s f → HasForm s g → same (form_of s g) (form_of s f) ≡ same_id f g
   same_is f g h k = elim (eqb_tells f.0 g.0) [
-    | inl x ↦ subst (λ i. same (form_of s i) (form_of s f) ≡ true) (id_of f g x.1) (same-self (form_of s f)) ∙ sym x.0
-    | inr x ↦ not_true _ (λ e. x.1 (sym (ap (λ i. i.0) (shared.forms g f k h (same-true _ _ e))))) ∙ sym x.0
+    | inl x ↦ subst (λ i. same (form_of s i) (form_of s f) ≡ true) (same_form f g x.1) (same-self (form_of s f)) ∙ sym x.0
+    | inr x ↦ false_from_ne_true _ (λ e. x.1 (sym (ap (λ i. i.0) (shared.forms g f k h (same-true _ _ e))))) ∙ sym x.0
   ]
 
   -- so the number of a tree in the table of the trees is that of its id

@@ -5,12 +5,11 @@ use Rattle.term_store.specs.Trees.{Tables, HasForm, form_of, Extends}
 use Rattle.term_store.specs.Open.{HasPart, part_of}
 use Rattle.term_store.specs.declared.ids.FormId.{FormId}
 use Rattle.term_store.specs.declared.opening.Opening.{Opening}
-use Rattle.term_store.proofs.Kept.{still_form, kept_form}
+use Rattle.term_store.proofs.Kept.{still_form, kept_form, still_part, kept_part}
 use Rattle.param_store.specs.declared.offer.RawOffer.{RawOffer}
 use Rattle.param_store.specs.RawOffers as raw
 use Rattle.param_store.specs.RawOffers.{Quantified, split, split_offers, quantified, opened_offers, number_of, own_offers}
 use Rattle.param_store.specs.View.{HasRaw, raw_of}
-use Rattle.param_store.proofs.Stay.{part_still, part_stays}
 
 -- the own offers of a delta or a gamma formula
 pub own_opened : (table : List tree.Form) (f : tree.Form) (q : Quantified) (n : ℕ) → split f ≡ [] → quantified f ≡ Some q → number_of table f ≡ n
@@ -28,11 +27,11 @@ offer_of f w ids = record { act = record { first = f; second = None; with = w; o
 module _ (s t : Tables) (e : Extends s t) (f : FormId) (h : HasForm s f) where
   pub with_has : (w : Opening) (i : FormId) → HasPart s w → HasForm t i → HasRaw t (offer_of f (Some w) ((i ∷ []) ∷ []))
   with_has w i k l =
-      record { act = record { first = still_form s t e f h; second = tt; part = part_still s t e w k }; children = ((l, tt), tt) }
+      record { act = record { first = still_form s t e f h; second = tt; part = still_part s t e w k }; children = ((l, tt), tt) }
 
   pub with_made : (q : Quantified) (w : Opening) (i : FormId) → HasPart s w → form_of t i ≡ raw.at_part q (part_of s w)
       → raw_of t (offer_of f (Some w) ((i ∷ []) ∷ [])) ≡ raw.opened (form_of s f) q (part_of s w)
   with_made q w i k l =
       let a = kept_form s t e f h in
-      let b = part_stays s t e w k in
+      let b = kept_part s t e w k in
       cc

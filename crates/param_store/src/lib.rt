@@ -6,8 +6,6 @@ mod offer;
 mod opening;
 mod params;
 mod quantified;
-#[cfg(test)]
-mod tests;
 
 pub use fault::OfferFault;
 pub use offer::{Act, FormLists, RawOffer, RawOffers};

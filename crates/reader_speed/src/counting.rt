@@ -1,7 +1,3 @@
-ghost use Rattle.std.specs.Prelude.{◌≤◌, length, IfSome};
-ghost use Rattle.tptp_reader.specs.Answers.{Answers};
-ghost use Rattle.reader_speed.specs.Counting.{Statements, stopped};
-
 use std::alloc::Global;
 use tptp_reader::{Read, ReadRefusal, read_statement};
 
@@ -14,11 +10,7 @@ pub struct Count {
 }
 
 /// Reads the statements of a text, one after another, up to its end or the first refusal.
-pub fn counted(alloc: Global, bytes: &[u8]) -> Count
-    ensures statements { Statements bytes.now result.statements result.reached }
-    ensures stopped { IfSome (stopped result.refused) (Answers bytes.now result.reached) }
-    ensures within { result.reached ≤ length bytes.now }
-{
+pub fn counted(alloc: Global, bytes: &[u8]) -> Count {
     let mut statements = 0;
     let mut reached = 0;
     loop {

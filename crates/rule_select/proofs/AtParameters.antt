@@ -1,6 +1,7 @@
 -- A typed rule at parameters of its binders, and its instances as substitutions for these.
 use Rattle.std.proofs.Common.{ℕ, ◌≡◌, ◌+◌, ◌<◌, ◌==◌, suc, Bool, true, false, if◌then◌else◌, inr, refl, ap, sym, ◌∙◌, subst, arith, List, [], ◌∷◌, length}
 use Rattle.std.proofs.lemmas.Bool.{ne_eqb}
+use Rattle.zm_logic.proofs.Inverted.{binder_type}
 use Rattle.zm_logic.specs.Tree.{Ty, Term, Form, Opening, Symbol, Binder, for_all}
 use Rattle.zm_logic.specs.Opening.{open_type, open_term, open_at}
 use Rattle.zm_logic.specs.Parameter.{EachInTerm, EachIn}
@@ -9,7 +10,6 @@ use Rattle.zm_logic.specs.Typing.{IsType, HasType, WellTyped, IsSignature}
 use Rattle.zm_logic.specs.Problem.{prenex}
 use Rattle.zm_logic.specs.Rewriting.{Fit}
 use Rattle.zm_logic.proofs.Opened.{itself}
-use Rattle.rule_select.proofs.Kept.{binder_type}
 use Rattle.zm_logic.proofs.Instance.{well_typed_at_term, well_typed_at_type, open_is_type}
 use Rattle.zm_logic.proofs.Substitution.{Substitution, sub_type}
 use Rattle.zm_logic.proofs.Each.{each_open, each_open_term}

@@ -1,6 +1,7 @@
 -- From a well typed instance of a tree: the part of each index in the tree has its type.
-use Rattle.std.proofs.Common.{ℕ, ◌≡◌, Bool, true, false, ◌||◌, ◌⊎◌, inl, inr, refl, ap, sym, ◌∙◌, subst, arith, List}
+use Rattle.std.proofs.Common.{ℕ, ◌≡◌, true, inl, inr, ap, sym, ◌∙◌, subst, arith, List}
 use Rattle.std.proofs.lemmas.Bool.Decides.{Decides-eqb}
+use Rattle.std.proofs.lemmas.Bool.{or_cases}
 use Rattle.zm_logic.specs.Tree.{Ty, Tys, Term, Terms, Opening, Symbol}
 use Rattle.zm_logic.specs.Opening.{type_at, term_at, type_instance, types_instance}
 use Rattle.zm_logic.specs.Parameter.{EachInType, EachInTypes, EachInTerm, EachInTerms, Never}
@@ -29,10 +30,6 @@ meets_term symbols s i (Opening.of_term a) t g h =
     let e : term_at i (Opening.of_term a) i ≡ a = rw (itself i) in
     (t, subst (λ x. HasType symbols x t) e g, subst (λ x. HasType symbols (sub_term s x) (sub_type s.types t)) e h)
 
-pub or_either : (a b : Bool) → (a || b) ≡ true → (a ≡ true) ⊎ (b ≡ true)
-or_either true b e = inl refl
-or_either false b e = inr e
-
 module _ (symbols : List Symbol) (sig : IsSignature symbols) (s : Substitution) (c : Closed s) (es : List Opening) (closed : AreClosedOpenings es)
     (i : ℕ) (o : Opening) (entry : Entry es i o) where
   mutual
@@ -53,7 +50,7 @@ module _ (symbols : List Symbol) (sig : IsSignature symbols) (s : Substitution) 
     collect_types (Tys.more t ts) free has h g =
         let x = subst (AreTypes symbols 0) (ap (sub_types s.types) (types_more es t ts)) h in
         let y = subst (AreTypes symbols 0) (types_more es t ts) g in
-        elim (or_either (type_has i t) (types_have i ts) has) [ inl e ↦ collect_type t free.0 e x.0 y.0 | inr e ↦ collect_types ts free.1 e x.1 y.1 ]
+        elim (or_cases (type_has i t) (types_have i ts) has) [ inl e ↦ collect_type t free.0 e x.0 y.0 | inr e ↦ collect_types ts free.1 e x.1 y.1 ]
 
   mutual
     pub collect_term : (a : Term) (t : Ty) → EachInTerm Never a → term_has i a ≡ true → HasType symbols (term_instance es a) t
@@ -71,7 +68,7 @@ module _ (symbols : List Symbol) (sig : IsSignature symbols) (s : Substitution) 
         let d : y.0 ≡ x.0 = cc (x.2.0, y.2.0) in
         let r = declared_types_sub s c (types_instance es ts) x.0.arguments (no_parameters symbols sig f x.0 x.2.0).arguments in
         let z = subst (λ d. HaveTypes symbols (sub_terms s (terms_instance es us)) (argument_types d (sub_types s.types (types_instance es ts)))) d y.5 in
-        elim (or_either (types_have i ts) (terms_have i us) has) [
+        elim (or_cases (types_have i ts) (terms_have i us) has) [
           | inl k ↦ collect_types ts free.0 k y.4 x.4
           | inr k ↦ collect_terms us (argument_types x.0 (types_instance es ts)) free.1 k x.5
               (subst (HaveTypes symbols (sub_terms s (terms_instance es us))) (sym r) z)
@@ -84,4 +81,4 @@ module _ (symbols : List Symbol) (sig : IsSignature symbols) (s : Substitution) 
     collect_terms (Terms.more u us) (Tys.more r ss) free has g h =
         let x = subst (λ y. HaveTypes symbols y (Tys.more r ss)) (terms_more es u us) g in
         let y = subst (λ y. HaveTypes symbols (sub_terms s y) (sub_types s.types (Tys.more r ss))) (terms_more es u us) h in
-        elim (or_either (term_has i u) (terms_have i us) has) [ inl e ↦ collect_term u r free.0 e x.0 y.0 | inr e ↦ collect_terms us ss free.1 e x.1 y.1 ]
+        elim (or_cases (term_has i u) (terms_have i us) has) [ inl e ↦ collect_term u r free.0 e x.0 y.0 | inr e ↦ collect_terms us ss free.1 e x.1 y.1 ]

@@ -7,5 +7,4 @@ mod TypedRule
 mod Selected
 mod Sorted
 mod Numbers
-mod Truths
 mod Worked

@@ -1,6 +1,7 @@
 -- The rules that are selected from a typed problem are sound, so they keep types.
 use Rattle.std.proofs.Common.{ℕ, ◌≡◌, ◌+◌, zero, suc, Bool, true, false, ◌&&◌, if◌then◌else◌, ◌⊎◌, inl, inr, refl, ap, sym, subst, arith, Option, List, [], ◌∷◌, ◌++◌, length, All}
 use Rattle.std.specs.List.{Contains}
+use Rattle.std.proofs.lemmas.List.Elements.{All-head, All-tail}
 use Rattle.zm_logic.specs.Tree.{Ty, Term, Form, Connective, Quantifier, Opening, Symbol, Rule, Binder, Role, Premise, iff, for_all}
 use Rattle.zm_logic.specs.Opening.{open_at, at_term, at_type}
 use Rattle.zm_logic.specs.Parameter.{Parameter, IsNot, IsFresh, EachIn, EachInTerm, Never}
@@ -197,21 +198,15 @@ member : (r q : Rule) (rs : List Rule) → Contains (q ∷ rs) r → (q ≡ r) �
 member r q rs (zero, h, e) = inl e
 member r q rs (suc k, h, e) = inr (k, omega arith, e)
 
-first_premise : (P : Premise → Type 0) (p : Premise) (ps : List Premise) → All P (p ∷ ps) → P p
-first_premise P p ps a = a 0 p (omega arith)
-
-other_premises : (P : Premise → Type 0) (p : Premise) (ps : List Premise) → All P (p ∷ ps) → All P ps
-other_premises P p ps a i d l = a (suc i) d (omega arith)
-
 sorted_rules : (symbols : List Symbol) {n : ℕ} {ps : List Premise} {rules : List Rule} {numbers : List (Option ℕ)}
     → All (λ p. IsProblemForm symbols p.form) ps → Sorts n ps rules numbers → (r : Rule) → Contains rules r → IsSound symbols r
 sorted_rules symbols a Sorts.done r h = absurd (omega arith)
 sorted_rules symbols a (Sorts.rule {p = p} {r = q} {ps = ps} {rules = rules} k x) r h =
     elim (member r q rules h) [
-      | inl e ↦ subst (IsSound symbols) e (rule_is_sound symbols p q (first_premise (λ p. IsProblemForm symbols p.form) p ps a) k)
-      | inr l ↦ sorted_rules symbols (other_premises (λ p. IsProblemForm symbols p.form) p ps a) x r l
+      | inl e ↦ subst (IsSound symbols) e (rule_is_sound symbols p q (All-head (λ p. IsProblemForm symbols p.form) p ps a) k)
+      | inr l ↦ sorted_rules symbols (All-tail (λ p. IsProblemForm symbols p.form) p ps a) x r l
     ]
-sorted_rules symbols a (Sorts.keep {p = p} {ps = ps} k x) r h = sorted_rules symbols (other_premises (λ p. IsProblemForm symbols p.form) p ps a) x r h
+sorted_rules symbols a (Sorts.keep {p = p} {ps = ps} k x) r h = sorted_rules symbols (All-tail (λ p. IsProblemForm symbols p.form) p ps a) x r h
 
 pub selected_rules_are_sound : laws.SelectedRulesAreSound
 selected_rules_are_sound p s r typed (inl h) m = sorted_rules p.symbols typed.premises h r m

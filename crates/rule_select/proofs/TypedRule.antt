@@ -1,6 +1,8 @@
 -- A typed rule whose left side has every binder keeps the type of what it rewrites.
 use Rattle.std.proofs.Common.{ℕ, ◌≡◌, ◌<◌, true, ◌||◌, inl, inr, refl, ap, sym, ◌∙◌, subst, arith, List, map, length}
 use Rattle.std.specs.List.{Contains}
+use Rattle.std.proofs.lemmas.Bool.{or_cases}
+use Rattle.zm_logic.proofs.Inverted.{well_typed_equality, well_typed_left, well_typed_right, well_typed_atom, first_part, second_part}
 use Rattle.zm_logic.specs.Tree.{Ty, Tys, Term, Terms, Form, Opening, Symbol, Side, Rule, Binder, iff}
 use Rattle.zm_logic.specs.Opening.{type_instance, types_instance, side_instance, openings}
 use Rattle.zm_logic.specs.Parameter.{EachInTerm, EachIn, Never}
@@ -8,7 +10,7 @@ use Rattle.zm_logic.specs.Index.{type_has, types_have, term_has, terms_have, for
 use Rattle.zm_logic.specs.Typing.{HasType, HaveTypes, WellTyped, IsSignature, argument_types}
 use Rattle.zm_logic.specs.Problem.{IsTypedSides}
 use Rattle.zm_logic.specs.Rewriting.{Fit}
-use Rattle.rule_select.proofs.Kept.{KeepTypes, well_typed_equality, well_typed_left, well_typed_right, well_typed_atom, first_part, second_part}
+use Rattle.rule_select.proofs.Kept.{KeepTypes}
 use Rattle.zm_logic.proofs.Substitution.{Substitution, sub_type, sub_types, sub_term, sub_terms, sub, sub_opening, Closed}
 use Rattle.zm_logic.proofs.Each.{each, each_term}
 use Rattle.zm_logic.proofs.Renaming.{sub_side, sub_free_side, side_instance_sub}
@@ -17,7 +19,7 @@ use Rattle.zm_logic.specs.Laws.{HasNoParameterIn}
 use Rattle.rule_select.specs.Sound.{IsPattern, IsSound}
 use Rattle.rule_select.proofs.Instances.{term_instance, terms_instance, form_instance, side_of_term, side_of_form, app_instance, atom_instance, equal_instance, iff_instance}
 use Rattle.rule_select.proofs.Beside.{Entry, Beside, same_length, put, put_closed, parts_put, entry_below, AreClosedOpenings}
-use Rattle.rule_select.proofs.Collected.{Meets, or_either, collect_type, collect_types, collect_term, collect_terms}
+use Rattle.rule_select.proofs.Collected.{Meets, collect_type, collect_types, collect_term, collect_terms}
 use Rattle.rule_select.proofs.AtParameters.{fit_length, at_parameters, EachMeets, respects_form_instance, respects_term_instance, puts_types, beside_closed}
 
 module _ (symbols : List Symbol) (sig : IsSignature symbols) where
@@ -87,7 +89,7 @@ module _ (symbols : List Symbol) (sig : IsSignature symbols) where
       let d : y.0 ≡ x.0 = cc (x.1.0, y.1.0) in
       let r = declared_types_sub s c (types_instance es ts) x.0.arguments (no_parameters symbols sig p x.0 x.1.0).arguments in
       let z = subst (λ d. HaveTypes symbols (sub_terms s (terms_instance es us)) (argument_types d (sub_types s.types (types_instance es ts)))) d y.4 in
-      elim (or_either (types_have i ts) (terms_have i us) has) [
+      elim (or_cases (types_have i ts) (terms_have i us) has) [
         | inl k ↦ collect_types symbols sig s c es closed i o entry ts free.0 k y.3 x.3
         | inr k ↦ collect_terms symbols sig s c es closed i o entry us (argument_types x.0 (types_instance es ts)) free.1 k x.4
             (subst (HaveTypes symbols (sub_terms s (terms_instance es us))) (sym r) z)
@@ -100,9 +102,9 @@ module _ (symbols : List Symbol) (sig : IsSignature symbols) where
       let e = equal_instance es t a b in
       let x = subst (WellTyped symbols) e g in
       let y = subst (λ f. WellTyped symbols (sub s f)) e h in
-      elim (or_either (type_has i t) (term_has i a || term_has i b) has) [
+      elim (or_cases (type_has i t) (term_has i a || term_has i b) has) [
         | inl k ↦ collect_type symbols sig s c es closed i o entry t free.0 k (well_typed_equality symbols y) (well_typed_equality symbols x)
-        | inr k ↦ elim (or_either (term_has i a) (term_has i b) k) [
+        | inr k ↦ elim (or_cases (term_has i a) (term_has i b) k) [
           | inl l ↦ collect_term symbols sig s c es closed i o entry a (type_instance es t) free.1 l (well_typed_left symbols x) (well_typed_left symbols y)
           | inr l ↦ collect_term symbols sig s c es closed i o entry b (type_instance es t) free.2 l (well_typed_right symbols x) (well_typed_right symbols y)
         ]

@@ -3,7 +3,5 @@
 
 pub mod laws;
 mod selection;
-#[cfg(test)]
-mod tests;
 
 pub use selection::{RuleOf, Selection, keep_all};

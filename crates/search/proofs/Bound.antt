@@ -2,9 +2,11 @@
 -- taken.
 use Rattle.std.proofs.Common.{◌≡◌, ◌≢◌, ℕ, ◌+◌, ◌*◌, ◌-◌, ◌≤◌, ◌<◌, Bool, true, false, ◌||◌, refl, ap, sym, subst, ◌∙◌, List, [], ◌∷◌, inl, inr, Contains, arith, Some}
 use Rattle.std.proofs.lemmas.Nat.{mul-le}
+use Rattle.std.proofs.lemmas.Option.{same_Some}
+use Rattle.std.proofs.lemmas.Bool.{and_from, or_left, or_right}
 use Rattle.zm_logic.specs.Tree.{Form, Connective}
 use Rattle.zm_logic.specs.Same.{has}
-use Rattle.zm_logic.proofs.Sames.{Contains-here, Contains-there, Contains-cases, Contains-none, contains-has, and_true, or_left, or_right}
+use Rattle.zm_logic.proofs.Sames.{Contains-here, Contains-there, Contains-cases, Contains-none, contains-has}
 use Rattle.param_store.specs.RawOffers.{Act, split}
 use Rattle.branch.specs.Branch.{extend}
 use Rattle.branch.specs.Setting.{Setting}
@@ -13,7 +15,7 @@ use Rattle.branch.specs.Offers.{Child, Offer, normals, has_all, has_some, IsOffe
 use Rattle.branch.specs.Tableau.{Node, Children, Leaf, given, skips, enter_child, after, IsLawful, AreLawful, count, count_all, current, current_of}
 use Rattle.branch.specs.QuantifierFree.{AreQuantifierFree, useful_splits}
 use Rattle.branch.proofs.Lists.{or-cases}
-use Rattle.branch.proofs.Branches.{extend-keeps, extend-has, some_is}
+use Rattle.branch.proofs.Branches.{extend-keeps, extend-has}
 use Rattle.branch.proofs.Closings.{IsWithin}
 use Rattle.branch.proofs.Splits.{IsSplitOffer, split_offered, offer_at}
 use Rattle.branch.proofs.FreeBranches.{extend_free, children_free}
@@ -79,7 +81,7 @@ brought ns = normals (given ns)
 
 pub all_on : (s c : List Form) → IsWithin c s → has_all s c ≡ true
 all_on s [] w = refl
-all_on s (f ∷ fs) w = and_true (has s f) (has_all s fs) (contains-has s f (w f (Contains-here f fs))) (all_on s fs (λ x h. w x (Contains-there f fs x h)))
+all_on s (f ∷ fs) w = and_from (has s f) (has_all s fs) (contains-has s f (w f (Contains-here f fs))) (all_on s fs (λ x h. w x (Contains-there f fs x h)))
 
 pub some_on : (s c : List Form) (cs : List (List Form)) → Contains cs c → has_all s c ≡ true → has_some s cs ≡ true
 some_on s c [] h e = absurd (Contains-none c h)
@@ -154,7 +156,7 @@ abbrev leaf_at : List Form → List Form → ℕ → Leaf
 leaf_at b t d = record { branch = b; above = d; table = t }
 
 leaf_is : (b t : List Form) (d : ℕ) (leaf : Leaf) → Some (leaf_at b t d) ≡ Some leaf → leaf_at b t d ≡ leaf
-leaf_is b t d leaf e = some_is (leaf_at b t d) leaf e
+leaf_is b t d leaf e = same_Some (leaf_at b t d) leaf e
 
 module _ (s : Setting) (unruled : s.rules ≡ []) where
   -- what a lawful Step acts on

@@ -1,14 +1,11 @@
 -- A Closed leaf in the place of the first Open one leaves one Open leaf fewer.
-use Rattle.std.proofs.Common.{◌≡◌, ℕ, suc, ◌+◌, Bool, true, false, ◌&&◌, cond, refl, List, arith}
+use Rattle.std.proofs.Common.{◌≡◌, suc, ◌+◌, Bool, true, false, ◌&&◌, cond, refl, List, arith}
+use Rattle.std.proofs.lemmas.Bool.{and_right}
 use Rattle.zm_logic.specs.Tree.{Form}
 use Rattle.branch.specs.Branch.{Closing, extend}
 use Rattle.branch.specs.Tableau.{Node, Children, is_finished, are_finished, is_idle, uses, skips}
 use Rattle.branch.specs.Replaced.{skipping, replaced, replaced_in}
 use Rattle.search.specs.OpenLeaves.{open_leaves, open_leaves_of}
-
-never : (v : Bool) → (v && false) ≡ false
-never true = refl
-never false = refl
 
 kept_open : (w : Bool) (ns : Children) → w ≡ false → open_leaves_of (cond w (skipping ns) ns) ≡ open_leaves_of ns
 kept_open true ns e = absurd (let q = e in cc)
@@ -39,5 +36,5 @@ mutual
       go true e later here q = let h = later e in omega arith
       go false e later here q =
           let h = here q in
-          let k = kept_open (skips false b f m) ns (never (is_idle b f m (uses (extend b f) m))) in
+          let k = kept_open (skips false b f m) ns (and_right (is_idle b f m (uses (extend b f) m)) false refl) in
           omega arith

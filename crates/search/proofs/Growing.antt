@@ -1,24 +1,23 @@
 -- What a search keeps, as a Step is put and as a leaf is closed.
-use Rattle.std.proofs.Common.{◌≡◌, ◌≢◌, ℕ, zero, suc, ◌+◌, ◌<◌, ◌≤◌, max, Bool, true, false, refl, ap, sym, subst, ◌∙◌, List, [], ◌∷◌, ◌++◌, Some, None, map, length, All, Result, Ok, Err, OnOk, IfOk, inl, inr, ◌⊎◌, arith}
+use Rattle.std.proofs.Common.{◌≡◌, ℕ, suc, ◌+◌, ◌<◌, ◌≤◌, max, false, refl, ap, sym, subst, ◌∙◌, List, [], ◌∷◌, ◌++◌, Some, None, map, length, All, Result, Ok, Err, OnOk, IfOk, inl, inr, arith}
 use Rattle.std.proofs.lemmas.List.Elements.{All-push}
 use Rattle.std.proofs.lemmas.List.{append-nil}
+use Rattle.std.proofs.lemmas.Option.{same_Some}
 use Rattle.zm_logic.specs.Tree.{Form, Problem}
 use Rattle.zm_logic.specs.View.{symbol_tree}
 use Rattle.zm_logic.specs.Truth.{refuted}
 use Rattle.param_store.specs.View.{forms_of, HasForms}
-use Rattle.param_store.specs.RawOffers.{Act}
 use Rattle.param_store.proofs.Stay.{forms_stay}
 use Rattle.branch.specs.Branch.{closing, extend}
-use Rattle.branch.specs.BranchOffers.{Kind}
 use Rattle.branch.specs.Setting.{Setting}
 use Rattle.branch.specs.Normal.{Made, MakesAll, Normalizes, NormalizesFrom}
 use Rattle.branch.specs.Offers.{Child, Offer}
 use Rattle.branch.specs.Ids.{node_ids, tree_of}
 use Rattle.branch.specs.Tableau as tableau
-use Rattle.branch.specs.Tableau.{Node, Leaf, count, count_all, picks, picks_all, height, height_all, is_finished, current_leaf}
+use Rattle.branch.specs.Tableau.{Node, Leaf, count, count_all, picks, picks_all, height_all, is_finished, current_leaf}
 use Rattle.branch.specs.Replaced.{opening, replaced}
 use Rattle.branch.specs.Laws.{IsGrown}
-use Rattle.branch.specs.Stopping.{Cause, IsRoot, StopsAt, StopsInside, Stopped}
+use Rattle.branch.specs.Stopping.{Cause, IsRoot, StopsAt, Stopped}
 use Rattle.branch.specs.State.{State, IsBegun, IsKept, setting, given_ids, normal_ids, given_forms, root, tree}
 use Rattle.branch.specs.Stepped.{IsOf, IsSame, IsOpen, IsUnclosed, AtLeaf, IsApplied, IsClosedAt, IsStarted, AreSeen, AreOffersSeen, IsTooDeep}
 use Rattle.branch.specs.Listed.{IfStop}
@@ -38,12 +37,9 @@ use Rattle.search.specs.declared.run.Turned.{Turned}
 use Rattle.search.specs.declared.run.Turned.TheVariants as turns
 use Rattle.search.proofs.Fewer.{closed_fewer}
 
-leaf_is : (x y : Leaf) → Some x ≡ Some y → x ≡ y
-leaf_is x y e = cc
-
 -- one leaf is current
 pub at_leaf : (t : State) (claim : Leaf → Type 0) (leaf : Leaf) → AtLeaf t claim → current_leaf (root t) (tree t) ≡ Some leaf → claim leaf
-at_leaf t claim leaf a e = subst claim (leaf_is a.leaf leaf (sym a.is_current ∙ e)) a.holds
+at_leaf t claim leaf a e = subst claim (same_Some a.leaf leaf (sym a.is_current ∙ e)) a.holds
 
 -- where a leaf is current, some leaf is Open, and there is room for the Steps above
 pub is_open : (t : State) (leaf : Leaf) → current_leaf (root t) (tree t) ≡ Some leaf → is_finished (tree t) ≡ false
@@ -52,7 +48,7 @@ is_open t leaf e = (open_tableaux_have_a_current_leaf (root t) (tree t)).1 (leaf
 pub leaf_short : (t : State) (leaf : Leaf) → IsKept t → current_leaf (root t) (tree t) ≡ Some leaf → leaf.above ≤ 512
 leaf_short t leaf k e =
     let c = open_some t k (is_open t leaf e) in
-    let i = leaf_is _ leaf (sym c.2.leaf ∙ e) in
+    let i = same_Some _ leaf (sym c.2.leaf ∙ e) in
     subst (λ x. x.above ≤ 512) i c.2.short
 
 -- what a tableau was begun with stays

@@ -2,6 +2,7 @@
 -- they come to. Both fall from a branch to a child's.
 use Rattle.std.proofs.Common.{◌≡◌, ℕ, ◌+◌, ◌*◌, ◌≤◌, ◌<◌, Bool, true, false, ◌||◌, cond, refl, ap, subst, List, [], ◌∷◌, ◌++◌, inl, inr, Contains, arith}
 use Rattle.std.proofs.lemmas.Nat.{mul-le}
+use Rattle.std.proofs.lemmas.Bool.{and_parts, and_from, or_cases, or_left, or_right}
 use Rattle.zm_logic.specs.Tree.{Form, Connective}
 use Rattle.zm_logic.specs.Same.{same, has}
 use Rattle.param_store.specs.RawOffers.{split}
@@ -9,7 +10,7 @@ use Rattle.branch.specs.Branch.{add, extend}
 use Rattle.branch.specs.Offers.{has_all, has_some}
 use Rattle.branch.proofs.Closings.{IsWithin}
 use Rattle.search.specs.Need.{weight, leaves_as, leaves, weights, all_leaves}
-use Rattle.zm_logic.proofs.Sames.{Contains-cases, Contains-none, has-contains, contains-has, both_true, and_true, either_true, or_left, or_right, same-self, same-true}
+use Rattle.zm_logic.proofs.Sames.{Contains-cases, Contains-none, has-contains, contains-has, same-self, same-true}
 
 -- a formula is settled where some of its children stands on the branch
 abbrev pub settled : List Form → Form → Bool
@@ -54,13 +55,13 @@ leaves_pos v (Form.for_all_types f) = omega arith
 pub all_more : (s s' fs : List Form) → IsWithin s s' → has_all s fs ≡ true → has_all s' fs ≡ true
 all_more s s' [] w e = refl
 all_more s s' (f ∷ fs) w e =
-    let p = both_true (has s f) (has_all s fs) e in
-    and_true (has s' f) (has_all s' fs) (contains-has s' f (w f (has-contains s f p.0))) (all_more s s' fs w p.1)
+    let p = and_parts (has s f) (has_all s fs) e in
+    and_from (has s' f) (has_all s' fs) (contains-has s' f (w f (has-contains s f p.0))) (all_more s s' fs w p.1)
 
 pub some_more : (s s' : List Form) (cs : List (List Form)) → IsWithin s s' → has_some s cs ≡ true → has_some s' cs ≡ true
 some_more s s' [] w e = e
 some_more s s' (c ∷ cs) w e =
-    elim (either_true (has_all s c) (has_some s cs) e) [
+    elim (or_cases (has_all s c) (has_some s cs) e) [
       | inl i ↦ or_left (has_all s' c) (has_some s' cs) (all_more s s' c w i)
       | inr i ↦ or_right (has_all s' c) (has_some s' cs) (some_more s s' cs w i)
     ]
@@ -137,7 +138,7 @@ spread_falls s s' (g ∷ gs) f w y =
     (factor (settled s g || same f g) (settled s' g) (leaves g) (leaves_pos true g) (λ e. go e)) (spread_falls s s' gs f w y)
   where
     go : (settled s g || same f g) ≡ true → settled s' g ≡ true
-    go e = elim (either_true (settled s g) (same f g) e) [
+    go e = elim (or_cases (settled s g) (same f g) e) [
       | inl i ↦ settled_more s s' g w i
       | inr i ↦ let P : Form → Type 0 = λ x. settled s' x ≡ true in subst P (same-true f g i) y
     ]

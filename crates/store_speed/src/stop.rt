@@ -1,7 +1,3 @@
-ghost use Rattle.std.specs.Prelude.{◌≡◌};
-ghost use Rattle.term_store.specs.declared.fault.MkFault.TheVariants as faults;
-ghost use Rattle.store_speed.specs.declared.stop.Stop.TheVariants.{Memory, Deep};
-
 use std::alloc::AllocError;
 use term_store::MkFault;
 use unify::MguFault;
@@ -33,10 +29,7 @@ impl From<MguFault> for Stop {
 }
 
 /// Why a node wasn't stored.
-pub fn of_node<N: Drop>(fault: MkFault<N>) -> Stop
-    ensures memory { fault ≡ faults.Memory → result ≡ Memory }
-    ensures deep { (n : N) → fault ≡ faults.Deep n → result ≡ Deep }
-{
+pub fn of_node<N: Drop>(fault: MkFault<N>) -> Stop {
     match fault {
         MkFault::Memory => Stop::Memory,
         MkFault::Deep(_) => Stop::Deep,

@@ -5,8 +5,6 @@ mod children;
 mod opening;
 mod own;
 mod split;
-#[cfg(test)]
-mod tests;
 
 pub use own::own_offers;
 pub use param_store::OfferFault;

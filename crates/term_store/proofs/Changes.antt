@@ -1,6 +1,6 @@
 -- Opening and closing as one: what the calls of a walk leave.
-use Rattle.std.proofs.Common.{ℕ, zero, suc, ◌≡◌, ◌+◌, ◌<◌, ◌≤◌, ◌==◌, ◌&&◌, if◌then◌else◌, Bool, true, false, cond, Some, nat_eq, List, [], ◌∷◌, ◌++◌, length, get_or, take, refl, ap, sym, subst, ◌∙◌, true≢false, arith}
-use Rattle.std.proofs.lemmas.Bool.{eqb-true}
+use Rattle.std.proofs.Common.{ℕ, zero, suc, ◌≡◌, ◌+◌, ◌<◌, ◌≤◌, ◌==◌, if◌then◌else◌, Bool, true, false, cond, Some, nat_eq, List, [], ◌∷◌, ◌++◌, length, get_or, take, refl, ap, sym, subst, ◌∙◌, true≢false, arith}
+use Rattle.std.proofs.lemmas.Bool.{eqb-true, and_parts}
 use Rattle.std.proofs.lemmas.List.{take_more}
 use Rattle.indexmap.specs.IndexMap.{IndexMap, get, Updates}
 use Rattle.zm_logic.specs.Tree as tree
@@ -63,13 +63,9 @@ module _ (s t : Tables) (e : Extends s t) where
   }
 
 -- one more tree is noted
-both_true : (b c : Bool) → (b && c) ≡ true → (b ≡ true) × (c ≡ true)
-both_true true c e = (refl, e)
-both_true false c e = absurd (true≢false (sym e))
-
 one_place : (p q : Place) → same_place p q ≡ true → p ≡ q
 one_place p q e =
-    let h = both_true (nat_eq p.tree q.tree) (nat_eq p.binders q.binders) e in
+    let h = and_parts (nat_eq p.tree q.tree) (nat_eq p.binders q.binders) e in
     let make : ℕ → ℕ → Place = λ a b. record { tree = a; binders = b } in
     let x = eqb-true p.tree q.tree h.0 in let y = eqb-true p.binders q.binders h.1 in
     ap (λ a. make a p.binders) x ∙ ap (make q.tree) y

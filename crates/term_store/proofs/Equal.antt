@@ -1,6 +1,6 @@
 -- The derived comparisons of nodes decide equality.
-use Rattle.std.proofs.Common.{ℕ, ◌≡◌, ◌&&◌, Bool, true, false, nat_eq, List, refl, ap, sym, true≢false}
-use Rattle.std.proofs.lemmas.Bool.{eqb-true, eq-eqb}
+use Rattle.std.proofs.Common.{ℕ, ◌≡◌, ◌&&◌, Bool, true, nat_eq, List, refl, ap, sym, true≢false}
+use Rattle.std.proofs.lemmas.Bool.{eqb-true, eq-eqb, and_parts}
 use Rattle.std.specs.Cmp.Lexicographic.{pointwise, pointwise_decides}
 use Rattle.std.specs.Ordering.{on}
 use Rattle.zm_logic.specs.declared.tree.SymId.{SymId}
@@ -38,12 +38,8 @@ same_term i j e = let make : ℕ → TermId = λ n. record { 0 = n } in ap make 
 pub same_form : (i j : FormId) → i.0 ≡ j.0 → i ≡ j
 same_form i j e = let make : ℕ → FormId = λ n. record { 0 = n } in ap make e
 
-both_true : (b c : Bool) → (b && c) ≡ true → (b ≡ true) × (c ≡ true)
-both_true true c e = (refl, e)
-both_true false c e = absurd (true≢false (sym e))
-
 three_true : (b c d : Bool) → (b && (c && d)) ≡ true → (b ≡ true) × (c ≡ true) × (d ≡ true)
-three_true b c d e = let h = both_true b (c && d) e in let g = both_true c d h.1 in (h.0, g.0, g.1)
+three_true b c d e = let h = and_parts b (c && d) e in let g = and_parts c d h.1 in (h.0, g.0, g.1)
 
 symbols : (c d : SymId) → nat_eq c.0 d.0 ≡ true → c ≡ d
 symbols c d e = same_symbol c d (eqb-true c.0 d.0 e)
@@ -71,7 +67,7 @@ type_same (ty.Bound i) (ty.Bound j) e = ap ty.Bound (eqb-true i j e)
 type_same (ty.Param i) (ty.Param j) e = ap ty.Param (eqb-true i j e)
 type_same (ty.Meta i) (ty.Meta j) e = ap ty.Meta (eqb-true i j e)
 type_same (ty.Con c is) (ty.Con d js) e =
-    let h = both_true (nat_eq c.0 d.0) (pointwise (on (λ i. i.0) nat_eq) is js) e in
+    let h = and_parts (nat_eq c.0 d.0) (pointwise (on (λ i. i.0) nat_eq) is js) e in
     let x = symbols c d h.0 in let y = (lists_of_types is js).0 h.1 in cc
 type_same _ _ e = absurd (true≢false (sym e))
 
@@ -84,9 +80,9 @@ type_self (ty.Con c is) = rw (itself c.0, (lists_of_types is is).1 refl) refl
 pub term_same : (a b : TermNode) → term_eq a b ≡ true → a ≡ b
 term_same (term.Bound i) (term.Bound j) e = ap term.Bound (eqb-true i j e)
 term_same (term.Eps i t) (term.Eps j u) e =
-    let h = both_true (nat_eq i j) (nat_eq t.0 u.0) e in let x = eqb-true i j h.0 in let y = types t u h.1 in cc
+    let h = and_parts (nat_eq i j) (nat_eq t.0 u.0) e in let x = eqb-true i j h.0 in let y = types t u h.1 in cc
 term_same (term.Meta i t) (term.Meta j u) e =
-    let h = both_true (nat_eq i j) (nat_eq t.0 u.0) e in let x = eqb-true i j h.0 in let y = types t u h.1 in cc
+    let h = and_parts (nat_eq i j) (nat_eq t.0 u.0) e in let x = eqb-true i j h.0 in let y = types t u h.1 in cc
 term_same (term.App f is js) (term.App g ks ls) e =
     let h = three_true (nat_eq f.0 g.0) (pointwise (on (λ i. i.0) nat_eq) is ks) (pointwise (on (λ i. i.0) nat_eq) js ls) e in
     let x = symbols f g h.0 in let y = (lists_of_types is ks).0 h.1 in let z = (lists_of_terms js ls).0 h.2 in cc
@@ -109,17 +105,17 @@ form_same (form.Equal s a b) (form.Equal t c d) e =
     let x = types s t h.0 in let y = terms a c h.1 in let z = terms b d h.2 in cc
 form_same (form.Not f) (form.Not g) e = ap form.Not (forms f g e)
 form_same (form.And f g) (form.And h k) e =
-    let z = both_true (nat_eq f.0 h.0) (nat_eq g.0 k.0) e in let x = forms f h z.0 in let y = forms g k z.1 in cc
+    let z = and_parts (nat_eq f.0 h.0) (nat_eq g.0 k.0) e in let x = forms f h z.0 in let y = forms g k z.1 in cc
 form_same (form.Or f g) (form.Or h k) e =
-    let z = both_true (nat_eq f.0 h.0) (nat_eq g.0 k.0) e in let x = forms f h z.0 in let y = forms g k z.1 in cc
+    let z = and_parts (nat_eq f.0 h.0) (nat_eq g.0 k.0) e in let x = forms f h z.0 in let y = forms g k z.1 in cc
 form_same (form.Imp f g) (form.Imp h k) e =
-    let z = both_true (nat_eq f.0 h.0) (nat_eq g.0 k.0) e in let x = forms f h z.0 in let y = forms g k z.1 in cc
+    let z = and_parts (nat_eq f.0 h.0) (nat_eq g.0 k.0) e in let x = forms f h z.0 in let y = forms g k z.1 in cc
 form_same (form.Iff f g) (form.Iff h k) e =
-    let z = both_true (nat_eq f.0 h.0) (nat_eq g.0 k.0) e in let x = forms f h z.0 in let y = forms g k z.1 in cc
+    let z = and_parts (nat_eq f.0 h.0) (nat_eq g.0 k.0) e in let x = forms f h z.0 in let y = forms g k z.1 in cc
 form_same (form.All t f) (form.All u g) e =
-    let z = both_true (nat_eq t.0 u.0) (nat_eq f.0 g.0) e in let x = types t u z.0 in let y = forms f g z.1 in cc
+    let z = and_parts (nat_eq t.0 u.0) (nat_eq f.0 g.0) e in let x = types t u z.0 in let y = forms f g z.1 in cc
 form_same (form.Ex t f) (form.Ex u g) e =
-    let z = both_true (nat_eq t.0 u.0) (nat_eq f.0 g.0) e in let x = types t u z.0 in let y = forms f g z.1 in cc
+    let z = and_parts (nat_eq t.0 u.0) (nat_eq f.0 g.0) e in let x = types t u z.0 in let y = forms f g z.1 in cc
 form_same (form.AllType f) (form.AllType g) e = ap form.AllType (forms f g e)
 form_same _ _ e = absurd (true≢false (sym e))
 

@@ -1,9 +1,10 @@
 -- What a search for a node tells, and what one more node changes.
 use Rattle.std.proofs.Common.{ℕ, zero, suc, ◌≡◌, ◌≢◌, ◌+◌, ◌<◌, ◌≤◌, ◌⊎◌, inl, inr, Bool, true, false, not, cond, nat_lt, Some, None, List, [], ◌∷◌, ◌++◌, length, get_or, map, position, All, refl, ap, sym, subst, ◌∙◌, append-nil, true≢false, arith}
 use Rattle.std.specs.List.{position_or_len}
-use Rattle.std.proofs.lemmas.List.{get_or-map, map-append, length-map}
-use Rattle.std.proofs.lemmas.List.Sums.{prefix_len_passes, prefix_len_stops}
-use Rattle.std.proofs.lemmas.Bool.{ltb-true, ltb-false}
+use Rattle.std.proofs.lemmas.List.{get_or-map, map-append, length-map, length_push}
+use Rattle.std.proofs.lemmas.List.Sums.{prefix_len_passes}
+use Rattle.std.proofs.lemmas.Bool.{ltb-true, ltb-false, not-true}
+use Rattle.std.proofs.lemmas.List.Quantifiers.{position-Some}
 use Rattle.zm_logic.specs.Tree as tree
 use Rattle.zm_logic.specs.Measure.{type_depth, term_depth, depth}
 use Rattle.term_store.specs.Table.{trees, AllFit}
@@ -13,7 +14,7 @@ use Rattle.term_store.specs.declared.node.FormNode.{FormNode}
 use Rattle.term_store.specs.Node.{make_type, make_term, make_form, TypeFits, TermFits, FormFits}
 use Rattle.term_store.specs.Trees.{Trees, trees_of, AreAllDistinct}
 use Rattle.term_store.specs.Sound.{IsSound}
-use Rattle.term_store.proofs.Tables.{length_more, trees_push, trees_length, trees_at, trees_from_same, fit_push, fit_more, fit_at, distinct_push}
+use Rattle.term_store.proofs.Tables.{trees_push, trees_length, trees_at, trees_from_same, fit_push, fit_more, fit_at, distinct_push}
 use Rattle.term_store.proofs.Equal.{type_eq, term_eq, form_eq, type_same, term_same, form_same, type_self, term_self, form_self}
 use Rattle.term_store.proofs.Nodes.{make_type_stays, make_term_stays, make_form_stays, type_fits_more, term_fits_more, form_fits_more, make_type_same, make_term_same, make_form_same}
 
@@ -25,34 +26,13 @@ ltb_tells a b = by (nat_lt a b) refl
     by false e = inr (e, ltb-false a b e)
 
 module _ {A : Type 0} (p : A → Bool) (xs : List A) where
-  flip : (b : Bool) → not b ≡ false → b ≡ true
-  flip true e = refl
-  flip false e = absurd (true≢false e)
-
-  flop : (b : Bool) → not b ≡ true → b ≡ false
-  flop true e = absurd (true≢false (sym e))
-  flop false e = refl
-
-  -- the element at the position passes
-  pub position_found : (i : ℕ) (d : A) → position p xs ≡ Some i → (i < length xs) × (p (get_or xs i d) ≡ true)
-  position_found i d e = elim (ltb_tells (position_or_len p xs) (length xs)) [
-    | inl t ↦
-        (let z : cond (nat_lt (position_or_len p xs) (length xs)) (Some (position_or_len p xs)) None ≡ Some (position_or_len p xs) = rw t.0 refl in
-        let y : Some (position_or_len p xs) ≡ Some i = sym z ∙ e in
-        let w : position_or_len p xs ≡ i = cc in
-        subst (λ k. (k < length xs) × (p (get_or xs k d) ≡ true)) w (t.1, flip (p (get_or xs (position_or_len p xs) d)) (prefix_len_stops (λ x. not (p x)) xs d t.1)))
-    | inr t ↦
-        (let z : cond (nat_lt (position_or_len p xs) (length xs)) (Some (position_or_len p xs)) None ≡ None = rw t.0 refl in
-        let y : None ≡ Some i = sym z ∙ e in absurd (cc))
-  ]
-
   -- where there is none, no element passes
   pub position_absent : position p xs ≡ None → (k : ℕ) (d : A) → k < length xs → p (get_or xs k d) ≡ false
   position_absent e k d h = elim (ltb_tells (position_or_len p xs) (length xs)) [
     | inl t ↦
         (let z : cond (nat_lt (position_or_len p xs) (length xs)) (Some (position_or_len p xs)) None ≡ Some (position_or_len p xs) = rw t.0 refl in
         let y : None ≡ Some (position_or_len p xs) = sym e ∙ z in absurd (cc))
-    | inr t ↦ flop (p (get_or xs k d)) (prefix_len_passes (λ x. not (p x)) xs k d (omega (arith, t.1)))
+    | inr t ↦ not-true (p (get_or xs k d)) (prefix_len_passes (λ x. not (p x)) xs k d (omega (arith, t.1)))
   ]
 
 -- a bound for all, and for one more
@@ -122,7 +102,7 @@ module _ (ts : List TyNode) (ds : List ℕ) (us : List TermNode) (es : List ℕ)
       → (i < length (trees_of ts us fs).types) × (get_or (trees_of ts us fs).types i (tree.Ty.bound 0) ≡ make_type (trees_of ts us fs).types n) × (type_depth (make_type (trees_of ts us fs).types n) ≤ 2000)
   found_type n i e =
       let T = trees make_type ts in
-      let p = position_found (type_eq n) ts i n e in
+      let p = position-Some (type_eq n) ts i n e in
       let l : i < length T = omega (arith, p.0, trees_length make_type ts) in
       let at = trees_at make_type TypeFits make_type_stays ts h.types_fit i (tree.Ty.bound 0) n p.0 ∙ sym (ap (make_type T) (type_same n (get_or ts i n) p.1)) in
       (l, at, subst (λ t. type_depth t ≤ 2000) at (depth_bounded type_depth T ds h.type_depths h.types_bounded i (tree.Ty.bound 0) l))
@@ -143,7 +123,7 @@ module _ (ts : List TyNode) (ds : List ℕ) (us : List TermNode) (es : List ℕ)
       → IsSound (ts ++ n ∷ []) (ds ++ d ∷ []) us es fs gs
   added_type n d e f x l =
       let T = trees make_type ts in let t = make_type T n in
-      let len = length_more ts n in
+      let len = length_push ts n in
       let fits : TypeFits (0 + length ts) n = subst (λ k. TypeFits k n) (trees_length make_type ts ∙ omega arith) f in
       let new : (k : ℕ) (c : tree.Ty) → k < length T → get_or T k c ≢ t = λ k c b g.
       (let b' : k < length ts = omega (arith, b, trees_length make_type ts) in
@@ -166,7 +146,7 @@ module _ (ts : List TyNode) (ds : List ℕ) (us : List TermNode) (es : List ℕ)
       × (term_depth (make_term (trees_of ts us fs).types (trees_of ts us fs).terms n) ≤ 2000)
   found_term n i e =
       let T = trees make_type ts in let U = trees (make_term T) us in
-      let p = position_found (term_eq n) us i n e in
+      let p = position-Some (term_eq n) us i n e in
       let l : i < length U = omega (arith, p.0, trees_length (make_term T) us) in
       let at = trees_at (make_term T) (TermFits (length ts)) (over_types T (trees_length make_type ts)) us h.terms_fit i (tree.Term.bound 0) n p.0 ∙ sym (ap (make_term T U) (term_same n (get_or us i n) p.1)) in
       (l, at, subst (λ t. term_depth t ≤ 2000) at (depth_bounded term_depth U es h.term_depths h.terms_bounded i (tree.Term.bound 0) l))
@@ -187,7 +167,7 @@ module _ (ts : List TyNode) (ds : List ℕ) (us : List TermNode) (es : List ℕ)
   added_term n d e f x l =
       let T = trees make_type ts in let U = trees (make_term T) us in let u = make_term T U n in
       let stays = over_types T (trees_length make_type ts) in
-      let len = length_more us n in
+      let len = length_push us n in
       let g : TermFits (length ts) (length U) n = subst (λ k. TermFits k (length U) n) (trees_length make_type ts) f in
       let fits : TermFits (length ts) (0 + length us) n = subst (λ k. TermFits (length ts) k n) (trees_length (make_term T) us ∙ omega arith) g in
       let new : (k : ℕ) (c : tree.Term) → k < length U → get_or U k c ≢ u = λ k c b g.
@@ -211,7 +191,7 @@ module _ (ts : List TyNode) (ds : List ℕ) (us : List TermNode) (es : List ℕ)
       → let s = trees_of ts us fs in (i < length s.forms) × (get_or s.forms i tree.Form.truth ≡ make_form s.types s.terms s.forms n) × (depth (make_form s.types s.terms s.forms n) ≤ 2000)
   found_form n i e =
       let T = trees make_type ts in let U = trees (make_term T) us in let F = trees (make_form T U) fs in
-      let p = position_found (form_eq n) fs i n e in
+      let p = position-Some (form_eq n) fs i n e in
       let l : i < length F = omega (arith, p.0, trees_length (make_form T U) fs) in
       let at = trees_at (make_form T U) (FormFits (length ts) (length us)) (over_terms T U (trees_length make_type ts) (trees_length (make_term T) us)) fs h.forms_fit i tree.Form.truth n p.0 ∙ sym (ap (make_form T U F) (form_same n (get_or fs i n) p.1)) in
       (l, at, subst (λ t. depth t ≤ 2000) at (depth_bounded depth F gs h.form_depths h.forms_bounded i tree.Form.truth l))

@@ -1,5 +1,6 @@
 pub mod Tables
 pub mod Equal
+pub mod Told
 pub mod Nodes
 pub mod Found
 pub mod Loops

@@ -17,8 +17,6 @@ mod opening;
 mod puts;
 mod reads;
 mod store;
-#[cfg(test)]
-mod tests;
 mod trees;
 
 pub use fault::{EnterFault, MkFault, OpenFault};

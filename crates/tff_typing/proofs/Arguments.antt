@@ -1,5 +1,6 @@
 -- A symbol's arguments, one further.
 use Rattle.std.proofs.Common.{◌≡◌, ℕ, zero, suc, ◌+◌, ◌-◌, ◌<◌, ◌≤◌, Some, None, Ok, Err, List, [], ◌∷◌, ◌++◌, length, get_or, slice_get, take, drop, refl, ap, arith, subst, sym, ◌∙◌}
+use Rattle.std.proofs.lemmas.Option.{same_Some, none-some}
 use Rattle.zm_logic.specs.Tree as tree
 use Rattle.zm_logic.specs.Tree.{Tys, Terms}
 use Rattle.zm_logic.specs.declared.tree.Ty.{Ty}
@@ -21,7 +22,6 @@ use Rattle.tff_typing.specs.declared.fault.Stop.{Stop}
 use Rattle.tff_typing.specs.declared.fault.Stop.TheVariants as stops
 use Rattle.tff_typing.specs.View.{fault_tree, Gives, GivesIn}
 use Rattle.tff_typing.proofs.Outcomes.{both_ok, ok_same, no_ok}
-use Rattle.tff_typing.proofs.Lookups.{some_same, no_some}
 
 -- the first parts are passed over
 terms_rest : (table : Table) (s : Scope) (n : ℕ) (ws : Tys) (us : RawTerms)
@@ -99,10 +99,10 @@ more_terms : (table : Table) (s : Scope) (ws : List Ty) (us : List RawTerm) (i :
     → terms_at table s 0 (types_tree ws) (raw_terms_tree (take (suc i) us))
     ≡ one_more all (term_at mid s (type_tree w) (raw_term_tree d))
 more_terms table s ws [] i d w all mid l g k h = absurd (omega arith)
-more_terms table s [] (x ∷ xs) i d w all mid l g k h = absurd (no_some w (sym k))
+more_terms table s [] (x ∷ xs) i d w all mid l g k h = absurd (none-some w (sym k))
 more_terms table s (v ∷ vs) (x ∷ xs) zero d w all mid l g k h =
     let e = typed_same Terms.none all table mid h in
-    let q = some_same w v k in
+    let q = same_Some w v k in
     rw (← e.0, ← e.1, q, g) (only table s (type_tree v) (types_tree vs) (raw_term_tree x))
 more_terms table s (v ∷ vs) (x ∷ xs) (suc i) d w all mid l g k h =
     let a = both_ok (expression_at table s Place.term (raw_term_tree x)) _ (typed all mid) h in
@@ -124,10 +124,10 @@ fault_at : (table : Table) (s : Scope) (ws : List Ty) (us : List RawTerm) (i : �
     → term_at mid s (type_tree w) (raw_term_tree d) ≡ Err f
     → terms_at table s 0 (types_tree ws) (raw_terms_tree us) ≡ Err f
 fault_at table s ws [] i d w all mid f l g k h e = absurd (omega arith)
-fault_at table s [] (x ∷ xs) i d w all mid f l g k h e = absurd (no_some w (sym k))
+fault_at table s [] (x ∷ xs) i d w all mid f l g k h e = absurd (none-some w (sym k))
 fault_at table s (v ∷ vs) (x ∷ xs) zero d w all mid f l g k h e =
     let t = typed_same Terms.none all table mid h in
-    let q = some_same w v k in
+    let q = same_Some w v k in
     first_fault table s (type_tree v) (types_tree vs) (raw_term_tree x) (raw_terms_tree xs) f
     (ap (λ (y : Table). term_at y s (type_tree v) (raw_term_tree x)) t.1
     ∙ ap (λ (y : Ty). term_at mid s (type_tree y) (raw_term_tree x)) (sym q)
@@ -150,7 +150,7 @@ no_more table s ws [] zero r k h = h
 no_more table s ws [] (suc i) r k h = h
 no_more table s [] (x ∷ xs) zero r k h = h
 no_more table s [] (x ∷ xs) (suc i) r k h = h
-no_more table s (v ∷ vs) (x ∷ xs) zero r k h = absurd (no_some v k)
+no_more table s (v ∷ vs) (x ∷ xs) zero r k h = absurd (none-some v k)
 no_more table s (v ∷ vs) (x ∷ xs) (suc i) r k h =
     let a = both_ok (expression_at table s Place.term (raw_term_tree x)) _ r h in
     let b = both_ok (wanted (type_tree v) a.0.tree) _ r a.2 in

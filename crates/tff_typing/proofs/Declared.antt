@@ -1,8 +1,9 @@
 -- Declarations, one part further.
 use Rattle.std.proofs.Common.{◌≡◌, ℕ, zero, suc, ◌+◌, ◌<◌, ◌≤◌, ◌&&◌, bytes_eq, Bool, true, false, if◌then◌else◌, is_some, Option, Some, None, Ok, Err, List, [], ◌∷◌, ◌++◌, map, length, get_or, take, refl, ap, arith, subst, sym, ◌∙◌}
 use Rattle.std.proofs.lemmas.List.{take_more}
+use Rattle.std.proofs.lemmas.Option.{none-some}
 use Rattle.zm_logic.specs.Tree as tree
-use Rattle.zm_logic.specs.Tree.{Tys, Symbol, Sense}
+use Rattle.zm_logic.specs.Tree.{Tys, Sense}
 use Rattle.zm_logic.specs.declared.tree.Ty.{Ty}
 use Rattle.zm_logic.specs.View.{type_tree, types_tree}
 use Rattle.tptp_reader.specs.Raw as raw
@@ -22,7 +23,6 @@ use Rattle.tff_typing.specs.declared.fault.Stop.TheVariants as stops
 use Rattle.tff_typing.specs.View.{Gives, fault_tree, binder_tree, scope_tree}
 use Rattle.tff_typing.proofs.Outcomes.{both_ok, ok_same}
 use Rattle.tff_typing.proofs.ScopeLists.{scope_push, length_scope}
-use Rattle.tff_typing.proofs.Lookups.{no_some}
 use Rattle.tff_typing.proofs.RawLists.{with_raw_type, raw_types_push}
 
 -- one more type variable
@@ -227,7 +227,7 @@ not_declared n x (e ∷ es) h = go (bytes_eq e.symbol.name x) e.is_declared (λ 
         else first_from (suc n) (λ e. bytes_eq e.symbol.name x) es) ≡ None
         → (if c && b then Some (record { number = n; symbol = e.symbol }) else first_from (suc n) (declared_as x) es)
         ≡ None
-    go true c later h = absurd (no_some _ (sym h))
+    go true c later h = absurd (none-some _ (sym h))
     go false true later h = later h
     go false false later h = later h
 

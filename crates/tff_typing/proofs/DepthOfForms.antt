@@ -1,5 +1,6 @@
 -- A typed formula is at most 402 deeper than the written one, so at most 1,402 deep.
 use Rattle.std.proofs.Common.{◌≡◌, ◌⊎◌, inl, inr, ℕ, zero, suc, ◌+◌, ◌≤◌, ◌==◌, ◌&&◌, max, Bool, true, false, if◌then◌else◌, Option, Some, None, Ok, List, [], ◌∷◌, length, nat_lt, refl, arith, ap, subst, ◌∙◌}
+use Rattle.std.proofs.lemmas.Option.{same_Some, none-some}
 use Rattle.zm_logic.specs.Tree.{Ty, Tys, Term, Terms, Form, Symbol, Sense, Binder}
 use Rattle.zm_logic.specs.Opening.{openings}
 use Rattle.zm_logic.specs.Same.{same_type}
@@ -17,8 +18,8 @@ use Rattle.tff_typing.specs.Fault.{Fault, found_type, Outcome, ◌>>=◌}
 use Rattle.tff_typing.specs.Places.{type_in, types_in, Use, if_symbol, new_symbol, used_or_new, declared_or_used, symbol_for, Expression, applied, if_term, term_variable, wanted, as_formula, first}
 use Rattle.tff_typing.specs.Typing.{Typed, gives, unchanged, expression_in, terms_in, left_side, equality_in, type_quantifier, binder_in, bind, is_universal, form_in}
 use Rattle.tff_typing.proofs.Outcomes.{both_ok, ok_same, no_ok, test_held}
-use Rattle.tff_typing.proofs.Lookups.{some_same, no_some, looked_up}
-use Rattle.tff_typing.proofs.Instances.{how_many_instance}
+use Rattle.tff_typing.proofs.Lookups.{looked_up}
+use Rattle.zm_logic.proofs.TypeInstances.{how_many_instance}
 use Rattle.tff_typing.proofs.Tables.{IsTable, use_is, symbols_more, InMore, in_more}
 use Rattle.tff_typing.proofs.TypesTyped.{types_sound}
 use Rattle.tff_typing.proofs.TermsTyped.{IsScope, scope_kept, expression_sound}
@@ -136,12 +137,12 @@ use_shallow table place x n u ok h = go (left_declared table place x n (declared
 
 carried_depth : (s : Scope) (n : ℕ) (t : Ty) → IsShallowScope s → binder_of s n ≡ Some (Binder.of_term t)
     → type_depth t ≤ 201
-carried_depth [] n t ok h = absurd (no_some (Binder.of_term t) h)
+carried_depth [] n t ok h = absurd (none-some (Binder.of_term t) h)
 carried_depth (v ∷ vs) n t ok h = go (n == length vs) h (λ i. carried_depth vs n t ok.1 i)
   where
     go : (b : Bool) → (if b then Some v.binder else binder_of vs n) ≡ Some (Binder.of_term t)
         → (binder_of vs n ≡ Some (Binder.of_term t) → type_depth t ≤ 201) → type_depth t ≤ 201
-    go true h later = subst (λ (x : Binder). IsShallowBinder x) (some_same v.binder (Binder.of_term t) h) ok.0
+    go true h later = subst (λ (x : Binder). IsShallowBinder x) (same_Some v.binder (Binder.of_term t) h) ok.0
     go false h later = later h
 
 variable_depth : (s : Scope) (o : Option Bound) (e : Expression) → IsShallowScope s
@@ -176,7 +177,7 @@ wanted_depth k t (Expression.atom p ts us) u ok h = absurd (no_ok _ u h)
 -- the result of a symbol that stands in a table
 result_depth : (table : Table) (f : ℕ) (d : Symbol) (r : Ty) → IsShallowTable table
     → symbol_at (symbols_of table) f ≡ Some d → d.sense ≡ Sense.function r → type_depth r ≤ 201
-result_depth table zero d r ok h e = absurd (no (ap (λ (y : Symbol). y.sense) (some_same individuals d h) ∙ e))
+result_depth table zero d r ok h e = absurd (no (ap (λ (y : Symbol). y.sense) (same_Some individuals d h) ∙ e))
   where
     no : Sense.constructor ≡ Sense.function r → ⊥
     no h = cc

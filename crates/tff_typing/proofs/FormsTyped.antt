@@ -1,5 +1,6 @@
 -- What is given for a formula is well typed over the variables in scope.
 use Rattle.std.proofs.Common.{◌≡◌, ◌&&◌, Bool, true, false, Option, Some, None, Ok, List, [], ◌∷◌, length, refl, subst}
+use Rattle.std.proofs.lemmas.Option.{none-some}
 use Rattle.zm_logic.specs.Tree.{Ty, Form, Symbol, Binder}
 use Rattle.zm_logic.specs.Typing.{individual, WellTyped}
 use Rattle.zm_logic.specs.Parameter.{Parameter, Never, HasNoParameter}
@@ -13,7 +14,6 @@ use Rattle.tff_typing.specs.Fault.{◌>>=◌}
 use Rattle.tff_typing.specs.Places.{type_in, Expression, wanted, as_formula}
 use Rattle.tff_typing.specs.Typing.{Typed, expression_in, left_side, equality_in, type_quantifier, of_written, binder_in, bind, is_universal, form_in}
 use Rattle.tff_typing.proofs.Outcomes.{both_ok, ok_same, no_ok}
-use Rattle.tff_typing.proofs.Lookups.{no_some}
 use Rattle.tff_typing.proofs.Extends.{term_kept, joined}
 use Rattle.tff_typing.proofs.Tables.{IsTable}
 use Rattle.tff_typing.proofs.TypesTyped.{IsTypeIn, type_sound, individual_in}
@@ -166,9 +166,9 @@ form_sound table s front (RawForm.quantified q v f) e ok scope h =
     (record { grown = i.grown; form = bound_form (symbols_of x.table) s w q x.tree inner.0 a.0 refl inner.1 i.form })
 
 in_no_scope : (p : Parameter) → IsInScope [] p → Never p
-in_no_scope (Parameter.type_param n) h = no_some Binder.of_type h
+in_no_scope (Parameter.type_param n) h = none-some Binder.of_type h
 in_no_scope (Parameter.type_meta n) h = h
-in_no_scope (Parameter.eps n t) h = no_some (Binder.of_term t) h
+in_no_scope (Parameter.eps n t) h = none-some (Binder.of_term t) h
 in_no_scope (Parameter.meta n t) h = h
 
 -- a formula over no variables has no parameter

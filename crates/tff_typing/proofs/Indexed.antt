@@ -1,6 +1,7 @@
 -- The trees that one walk builds are those of typing, with an index for each variable in scope.
 use Rattle.std.proofs.Common.{◌≡◌, ℕ, zero, suc, ◌+◌, ◌-◌, ◌==◌, Bool, true, false, ◌&&◌, if◌then◌else◌, Option, Some, None, Ok, Err, List, [], ◌∷◌, length, nat_lt, refl, arith, sym, ap, subst, ◌∙◌}
 use Rattle.std.proofs.lemmas.Bool.{eqb-true}
+use Rattle.zm_logic.proofs.TypeInstances.{length_openings}
 use Rattle.zm_logic.specs.Tree.{Ty, Tys, Term, Terms, Form, Sense, Binder, Connective, Opening}
 use Rattle.zm_logic.specs.Same.{same_type}
 use Rattle.zm_logic.specs.Typing.{how_many, argument_types}
@@ -115,10 +116,6 @@ mutual
 instance_closed : (os : List Opening) (t : Ty) → IsClosedType 0 t → type_instance os t ≡ t
 instance_closed [] t h = refl
 instance_closed (o ∷ os) t h = rw (open_closed (length os) o t h) (instance_closed os t h)
-
-length_openings : (ts : Tys) → length (openings ts) ≡ how_many ts
-length_openings Tys.none = refl
-length_openings (Tys.more t ts) = omega (arith, length_openings ts)
 
 picked_step : (ts : Tys) (t : Ty) (i n : ℕ) → n ≡ how_many ts → IsClosedType 0 t
     → type_instance (openings ts) (Ty.bound i) ≡ picked ts i

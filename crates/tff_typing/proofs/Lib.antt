@@ -3,7 +3,6 @@ pub mod Extends
 pub mod Lookups
 pub mod Rebound
 pub mod TypesTyped
-pub mod Instances
 pub mod Tables
 pub mod TermsTyped
 pub mod Binding

@@ -1,6 +1,7 @@
 -- What the look-ups in scopes and tables find.
-use Rattle.std.proofs.Common.{◌≡◌, ℕ, suc, ◌+◌, ◌<◌, ◌==◌, Bool, true, false, if◌then◌else◌, bytes_eq, Some, None, [], ◌∷◌, length, refl, arith, sym, ap, subst}
+use Rattle.std.proofs.Common.{◌≡◌, ℕ, suc, ◌+◌, ◌<◌, ◌==◌, Bool, true, false, if◌then◌else◌, bytes_eq, Some, [], ◌∷◌, length, refl, arith, sym, ap, subst}
 use Rattle.std.proofs.lemmas.Bool.{ne_eqb, eqb-true}
+use Rattle.std.proofs.lemmas.Option.{same_Some, none-some}
 use Rattle.zm_logic.specs.Tree.{Binder}
 use Rattle.zm_logic.specs.Typing.{nth, symbol_at}
 use Rattle.zm_logic.proofs.Opened.{itself}
@@ -8,15 +9,9 @@ use Rattle.tptp_reader.specs.Raw.{Name}
 use Rattle.tff_typing.specs.Scope.{Scope, Variable, Bound, look_up, binder_of}
 use Rattle.tff_typing.specs.Table.{Table, Entry, Numbered, symbols_of, first_from}
 
-pub some_same : {A : Type 0} (x y : A) → Some x ≡ Some y → x ≡ y
-some_same x y h = cc
-
-pub no_some : {A : Type 0} (x : A) → None ≡ Some x → ⊥
-no_some x h = cc
-
 -- a number with a binder is below the length of the scope
 pub binder_below : (s : Scope) (n : ℕ) (b : Binder) → binder_of s n ≡ Some b → n < length s
-binder_below [] n b h = absurd (no_some b h)
+binder_below [] n b h = absurd (none-some b h)
 binder_below (v ∷ vs) n b h = go (n == length vs) refl (λ i. binder_below vs n b i) h
   where
     go : (q : Bool) → (n == length vs) ≡ q → (binder_of vs n ≡ Some b → n < length vs)
@@ -40,14 +35,14 @@ here_bound v s = record { number = length s; binder = v.binder }
 
 -- what a name finds is the binder of its number
 pub looked_up : (s : Scope) (x : Name) (b : Bound) → look_up s x ≡ Some b → binder_of s b.number ≡ Some b.binder
-looked_up [] x b h = absurd (no_some b h)
+looked_up [] x b h = absurd (none-some b h)
 looked_up (v ∷ vs) x b h = go (bytes_eq v.name x) (λ i. looked_up vs x b i) h
   where
     go : (q : Bool) → (look_up vs x ≡ Some b → binder_of vs b.number ≡ Some b.binder)
         → (if q then Some (record { number = length vs; binder = v.binder }) else look_up vs x) ≡ Some b
         → binder_of (v ∷ vs) b.number ≡ Some b.binder
     go true later h =
-        let e = some_same (here_bound v vs) b h in
+        let e = same_Some (here_bound v vs) b h in
         subst (λ (y : Bound). binder_of (v ∷ vs) y.number ≡ Some y.binder) e (binder_here v vs)
     go false later h = binder_kept v vs b.number b.binder (later h)
 
@@ -65,14 +60,14 @@ here_numbered k e = record { number = k; symbol = e.symbol }
 
 pub first_found : (k : ℕ) (test : Entry → Bool) (table : Table) (d : Numbered) → first_from k test table ≡ Some d
     → Stands k test table d
-first_found k test [] d h = absurd (no_some d h)
+first_found k test [] d h = absurd (none-some d h)
 first_found k test (e ∷ es) d h = go (test e) refl (λ i. first_found (suc k) test es d i) h
   where
     go : (q : Bool) → test e ≡ q → (first_from (suc k) test es ≡ Some d → Stands (suc k) test es d)
         → (if q then Some (record { number = k; symbol = e.symbol }) else first_from (suc k) test es) ≡ Some d
         → Stands k test (e ∷ es) d
     go true t later h =
-        let i = some_same (here_numbered k e) d h in
+        let i = same_Some (here_numbered k e) d h in
         record {
           at = 0;
           number = (let j : d.number ≡ k = ap (λ (y : Numbered). y.number) (sym i) in omega arith);

@@ -2,6 +2,7 @@
 use Rattle.std.proofs.Common.{◌≡◌, ℕ, suc, ◌+◌, ◌≤◌, ◌<◌, zero, max, get_or, Bool, true, false, if◌then◌else◌, Option, Some, None, Result, Ok, Err, List, [], ◌∷◌, length, nat_lt, refl, arith, sym, ap, subst, ◌∙◌}
 use Rattle.std.specs.List.{All}
 use Rattle.std.proofs.lemmas.List.Elements.{All-push, All-nil, All-weaker}
+use Rattle.std.proofs.lemmas.Option.{none-some, same_Some}
 use Rattle.zm_logic.specs.Tree.{Ty, Tys, Form, Symbol, Sense, Role, Premise, Problem}
 use Rattle.zm_logic.specs.Typing.{WellTyped, nth}
 use Rattle.zm_logic.specs.Measure.{type_depth, types_depth}
@@ -18,7 +19,6 @@ use Rattle.tff_typing.specs.Places.{type_in}
 use Rattle.tff_typing.specs.Typing.{form_in}
 use Rattle.tff_typing.specs.Statements.{indexed, all_indexed, type_variables, is_kind, arguments_in, constructor_of, function_of, predicate_of, with_result, declared_symbol, if_new, declare, State, start, if_first, formula_of, statement_in, Refusal, refused_at, then_typed, statements_in, to_prove, problem_of, problem_if, problem_in}
 use Rattle.tff_typing.proofs.Outcomes.{both_ok, ok_same, no_ok, test_held}
-use Rattle.tff_typing.proofs.Lookups.{no_some}
 use Rattle.tff_typing.proofs.Extends.{Extends, form_kept}
 use Rattle.tff_typing.proofs.Tables.{symbols_more, InMore, in_more}
 use Rattle.tff_typing.proofs.FormsTyped.{form_sound}
@@ -177,13 +177,10 @@ conjecture_stays a b o x h f e = form_stays a b f x (h f e)
 start_typed : IsTypedState start
 start_typed = record {
   made = start_is;
-  shallow = record { at = λ n d r h e. absurd (no_some d h); arguments = λ n d h. absurd (no_some d h) };
+  shallow = record { at = λ n d r h e. absurd (none-some d h); arguments = λ n d h. absurd (none-some d h) };
   premises = All-nil (λ (p : Premise). IsProblemForm [] p.form);
-  conjecture = λ f h. absurd (no_some f h);
+  conjecture = λ f h. absurd (none-some f h);
 }
-
-some_form : (f g : Form) → Some f ≡ Some g → f ≡ g
-some_form f g h = cc
 
 formula_typed : (state : State) (x : Name) (role : Option Role) (f : RawForm) (next : State) → IsTypedState state
     → IsNested f → raw_depth f ≤ 1000
@@ -224,7 +221,7 @@ formula_typed state x None f next ok nested low after h = go state.conjecture h
           made = subst (λ (y : State). IsState y) (sym e) after;
           shallow = d.table;
           premises = all_stay (symbols_of state.table) (symbols_of g.table) state.premises i.grown.grows ok.premises;
-          conjecture = λ c q. subst (λ (y : Form). IsProblemForm (symbols_of g.table) y) (some_form g.tree c q) p;
+          conjecture = λ c q. subst (λ (y : Form). IsProblemForm (symbols_of g.table) y) (same_Some g.tree c q) p;
         })
 
 statement_typed : (state : State) (s : RawStatement) (next : State) → IsTypedState state → IsWithinLimits s

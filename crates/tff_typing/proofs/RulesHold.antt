@@ -14,7 +14,7 @@ use Rattle.tff_typing.specs.Places.{if_type, type_variable, if_constructor, cons
 use Rattle.tff_typing.specs.Typing.{Typed, gives, expression_in, terms_in, left_side, equality_in, type_quantifier, of_written, binder_in, bind, is_universal, form_in}
 use Rattle.tff_typing.specs.Rules.{DenotesType, DenoteTypes, IsNoConstructor, DenotesSymbol, DenotesExpression, DenoteTerms, DenotesWritten, DenotesForm}
 use Rattle.tff_typing.proofs.Outcomes.{both_ok, ok_same, no_ok, test_held}
-use Rattle.tff_typing.proofs.Instances.{how_many_instance}
+use Rattle.zm_logic.proofs.TypeInstances.{how_many_instance}
 use Rattle.tff_typing.proofs.Lookups.{first_found}
 use Rattle.tff_typing.proofs.Tables.{use_of, used_number, how_many_individuals}
 

@@ -3,6 +3,7 @@ use Rattle.std.proofs.Common.{◌≡◌, ℕ, suc, ◌<◌, Bool, true, false, i
 use Rattle.std.proofs.lemmas.Slice.Eq.{bytes_eq-Decides}
 use Rattle.std.specs.List.{All}
 use Rattle.std.proofs.lemmas.List.Elements.{All-push, All-nil, All-weaker}
+use Rattle.std.proofs.lemmas.Option.{none-some}
 use Rattle.zm_logic.specs.Tree.{Ty, Tys, Form, Symbol, Sense, Binder, Role, Premise, Problem}
 use Rattle.zm_logic.specs.Typing.{IsType, AreTypes, IsDeclaration, IsSignature, nth, WellTyped, how_many}
 use Rattle.zm_logic.specs.Parameter.{EachInType, EachInTypes, Never}
@@ -15,7 +16,7 @@ use Rattle.tff_typing.specs.Places.{type_in}
 use Rattle.tff_typing.specs.Typing.{Typed, form_in}
 use Rattle.tff_typing.specs.Statements.{indexed, all_indexed, type_variables, is_kind, arguments_in, constructor_of, function_of, predicate_of, with_result, declared_symbol, if_new, declare, State, start, if_first, formula_of, statement_in, Refusal, refused_at, then_typed, statements_in, to_prove, problem_of, problem_if, problem_in}
 use Rattle.tff_typing.proofs.Outcomes.{both_ok, ok_same, no_ok, test_held}
-use Rattle.tff_typing.proofs.Lookups.{binder_below, no_some}
+use Rattle.tff_typing.proofs.Lookups.{binder_below}
 use Rattle.tff_typing.proofs.Extends.{Extends}
 use Rattle.tff_typing.proofs.Tables.{IsTable, HasDistinctNames, IsNew, none_found, entered}
 use Rattle.tff_typing.proofs.TypesTyped.{type_sound}
@@ -183,11 +184,11 @@ pub start_is : IsState start
 start_is = record {
   table =
       record {
-        signature = λ n d h. absurd (no_some d h);
-        names = record { same = λ m n d e h i s t. absurd (no_some d h) };
+        signature = λ n d h. absurd (none-some d h);
+        names = record { same = λ m n d e h i s t. absurd (none-some d h) };
       };
   premises = All-nil (λ (p : Premise). IsFormIn [] [] p.form);
-  conjecture = λ f h. absurd (no_some f h);
+  conjecture = λ f h. absurd (none-some f h);
 }
 
 kept_all : (a b : List Symbol) (ps : List Premise) → Extends a b → All (λ p. IsFormIn a [] p.form) ps

@@ -1,6 +1,6 @@
 -- What the statements so far make, one further.
 use Rattle.std.proofs.Common.{◌≡◌, ℕ, zero, suc, ◌+◌, ◌<◌, ◌≤◌, true, Option, Some, None, Result, Ok, Err, List, [], ◌∷◌, ◌++◌, map, length, get_or, slice_get, take, refl, ap, arith, sym, ◌∙◌}
-use Rattle.std.proofs.lemmas.List.{take_more}
+use Rattle.std.proofs.lemmas.List.{take_more, take_all}
 use Rattle.zm_logic.specs.declared.problem.Premise.{Premise}
 use Rattle.zm_logic.specs.declared.problem.Problem.{Problem}
 use Rattle.zm_logic.specs.Tree as tree
@@ -162,10 +162,7 @@ made_problem xs state p h e = record {
 }
 
 pub all_taken : {A : Type 0} (xs : List A) (n : ℕ) → length xs ≤ n → xs ≡ take n xs
-all_taken [] zero l = refl
-all_taken [] (suc n) l = refl
-all_taken (x ∷ xs) zero l = absurd (omega arith)
-all_taken (x ∷ xs) (suc n) l = ap (λ l. x ∷ l) (all_taken xs n (omega arith))
+all_taken xs n l = sym (take_all n xs l)
 
 -- gathered statements are within the reader's limits
 pub gathered_within : (xs : List GatheredStatement) → AllByRecursion IsGathered (map placed_of xs)

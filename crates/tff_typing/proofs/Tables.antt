@@ -4,6 +4,7 @@ use Rattle.std.proofs.lemmas.Bool.{eqb-true}
 use Rattle.std.proofs.lemmas.Bool.Decides.{Decides-eqb}
 use Rattle.std.proofs.lemmas.List.{take-append-le, take_all}
 use Rattle.std.proofs.lemmas.Slice.Eq.{bytes_eq-Decides}
+use Rattle.std.proofs.lemmas.Option.{same_Some, none-some}
 use Rattle.zm_logic.specs.Tree.{Symbol, Sense}
 use Rattle.zm_logic.specs.Typing.{nth, symbol_at, individuals, how_many, AreTypes, IsSignature, IsDeclaration}
 use Rattle.zm_logic.specs.Parameter.{EachInTypes, Never}
@@ -12,7 +13,7 @@ use Rattle.tff_typing.specs.Table.{Table, Entry, Numbered, Place, symbols_of, ar
 use Rattle.tff_typing.specs.Fault.{Fault}
 use Rattle.tff_typing.specs.Places.{Use, if_symbol, new_symbol, used_or_new, declared_or_used, symbol_for}
 use Rattle.tff_typing.proofs.Outcomes.{ok_same, no_ok, test_held}
-use Rattle.tff_typing.proofs.Lookups.{some_same, no_some, found_at, first_found}
+use Rattle.tff_typing.proofs.Lookups.{found_at, first_found}
 use Rattle.tff_typing.proofs.Extends.{Extends, appended}
 
 -- two symbols with one name and one number of arguments are one
@@ -43,8 +44,8 @@ pub data InMore (a : List Symbol) (x : Symbol) (n : ℕ) (d : Symbol) : Type 0 w
   last : n ≡ length a → x ≡ d → InMore a x n d
 
 pub in_more : (a : List Symbol) (x : Symbol) (n : ℕ) (d : Symbol) → nth (a ++ x ∷ []) n ≡ Some d → InMore a x n d
-in_more [] x zero d h = last refl (some_same x d h)
-in_more [] x (suc n) d h = absurd (no_some d h)
+in_more [] x zero d h = last refl (same_Some x d h)
+in_more [] x (suc n) d h = absurd (none-some d h)
 in_more (s ∷ ss) x zero d h = before (omega arith) h
 in_more (s ∷ ss) x (suc n) d h = go (in_more ss x n d h)
   where
@@ -111,7 +112,7 @@ pub record Fails (one two : Entry → Bool) (d : Symbol) : Type 0 where
 pub none_found : (k : ℕ) (one two : Entry → Bool) (table : Table) → first_from k one table ≡ None
     → first_from k two table ≡ None
     → (n : ℕ) (d : Symbol) → nth (symbols_of table) n ≡ Some d → Fails one two d
-none_found k one two [] h i n d e = absurd (no_some d e)
+none_found k one two [] h i n d e = absurd (none-some d e)
 none_found k one two (x ∷ xs) h i n d e =
     go (one x) (two x) refl refl h i n e (λ a b m f. none_found (suc k) one two xs a b m d f)
   where
@@ -127,7 +128,7 @@ none_found k one two (x ∷ xs) h i n d e =
         → Fails one two d
     go true b p q h i m e later = absurd (no_none _ h)
     go false true p q h i m e later = absurd (no_none _ i)
-    go false false p q h i zero e later = record { entry = x; same = some_same x.symbol d e; first = p; second = q }
+    go false false p q h i zero e later = record { entry = x; same = same_Some x.symbol d e; first = p; second = q }
     go false false p q h i (suc m) e later = later h i m e
 
 pub how_many_individuals : (n : ℕ) → how_many (individuals_of n) ≡ n

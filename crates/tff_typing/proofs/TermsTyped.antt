@@ -1,9 +1,10 @@
 -- What is given in a term's or a formula's place is well typed over the variables in scope.
-use Rattle.std.proofs.Common.{◌≡◌, ℕ, zero, suc, ◌+◌, ◌≤◌, ◌==◌, ◌&&◌, Bool, true, false, if◌then◌else◌, Option, Some, None, Ok, List, [], ◌∷◌, length, take, refl, arith, sym, ap, subst, ◌∙◌}
-use Rattle.std.proofs.lemmas.Bool.{eqb-true}
+use Rattle.std.proofs.Common.{◌≡◌, ℕ, zero, suc, ◌+◌, ◌≤◌, ◌==◌, Bool, true, false, if◌then◌else◌, Option, Some, None, Ok, List, [], ◌∷◌, length, take, refl, arith, sym, ap, subst, ◌∙◌}
+use Rattle.std.proofs.lemmas.Option.{same_Some, none-some}
+use Rattle.zm_logic.proofs.Sames.{same_type-true}
 use Rattle.zm_logic.specs.Tree.{Ty, Tys, Term, Terms, Symbol, Sense, Binder}
 use Rattle.zm_logic.specs.Opening.{openings}
-use Rattle.zm_logic.specs.Same.{same_type, same_types}
+use Rattle.zm_logic.specs.Same.{same_type}
 use Rattle.zm_logic.specs.Typing.{nth, symbol_at, individuals, how_many, argument_types, IsType, AreTypes, HasType, HaveTypes, IsAtom, IsSignature, IsSense}
 use Rattle.zm_logic.specs.Parameter.{Parameter, EachInType, EachInTypes, EachInTerm, EachInTerms, Never}
 use Rattle.zm_logic.proofs.Each.{each_type}
@@ -15,9 +16,9 @@ use Rattle.tff_typing.specs.Fault.{Fault, found_type}
 use Rattle.tff_typing.specs.Places.{types_in, Use, symbol_for, Expression, applied, if_term, term_variable, wanted, first}
 use Rattle.tff_typing.specs.Typing.{Typed, gives, expression_in, terms_in}
 use Rattle.tff_typing.proofs.Outcomes.{both_ok, ok_same, no_ok, test_held}
-use Rattle.tff_typing.proofs.Lookups.{some_same, no_some, looked_up, binder_kept}
+use Rattle.tff_typing.proofs.Lookups.{looked_up, binder_kept}
 use Rattle.tff_typing.proofs.Extends.{Extends, type_kept, types_kept, term_kept, itself, joined}
-use Rattle.tff_typing.proofs.Instances.{how_many_instance, type_instance_typed, each_instance}
+use Rattle.zm_logic.proofs.TypeInstances.{how_many_instance, type_instance_typed, each_instance}
 use Rattle.tff_typing.proofs.Tables.{IsTable, use_is}
 use Rattle.tff_typing.proofs.TypesTyped.{IsTypeIn, types_sound}
 
@@ -44,13 +45,13 @@ type_under symbols v s t h =
 -- a variable's type is a type over the whole scope
 pub carried : (symbols : List Symbol) (s : Scope) (n : ℕ) (t : Ty) → IsScope symbols s
     → binder_of s n ≡ Some (Binder.of_term t) → IsTypeIn symbols s t
-carried symbols [] n t ok h = absurd (no_some (Binder.of_term t) h)
+carried symbols [] n t ok h = absurd (none-some (Binder.of_term t) h)
 carried symbols (v ∷ vs) n t ok h = go (n == length vs) h (λ i. carried symbols vs n t ok.0 i)
   where
     go : (b : Bool) → (if b then Some v.binder else binder_of vs n) ≡ Some (Binder.of_term t)
         → (binder_of vs n ≡ Some (Binder.of_term t) → IsTypeIn symbols vs t) → IsTypeIn symbols (v ∷ vs) t
     go true h later =
-        let e = some_same v.binder (Binder.of_term t) h in
+        let e = same_Some v.binder (Binder.of_term t) h in
         type_under symbols v vs t (subst (λ (x : Binder). IsBinderIn symbols vs x) e ok.1)
     go false h later = type_under symbols v vs t (later h)
 
@@ -100,60 +101,13 @@ first_number (suc n) RawTerms.none h = absurd (omega arith)
 first_number (suc n) (RawTerms.more u us) h =
     let l : n ≤ number_of_terms us = omega arith in ap suc (first_number n us l)
 
-and_true : (a b : Bool) → (a && b) ≡ true → (a ≡ true) × (b ≡ true)
-and_true true b h = (refl, h)
-and_true false true h = absurd (no h)
-  where
-    no : false ≡ true → ⊥
-    no h = cc
-and_true false false h = absurd (no h)
-  where
-    no : false ≡ true → ⊥
-    no h = cc
-
-no_true : false ≡ true → ⊥
-no_true h = cc
-
-mutual
-  pub same_is : (t u : Ty) → same_type t u ≡ true → t ≡ u
-  same_is (Ty.bound i) (Ty.bound j) h = ap Ty.bound (eqb-true i j h)
-  same_is (Ty.bound i) (Ty.param n) h = absurd (no_true h)
-  same_is (Ty.bound i) (Ty.meta n) h = absurd (no_true h)
-  same_is (Ty.bound i) (Ty.con c ts) h = absurd (no_true h)
-  same_is (Ty.param m) (Ty.bound j) h = absurd (no_true h)
-  same_is (Ty.param m) (Ty.param n) h = ap Ty.param (eqb-true m n h)
-  same_is (Ty.param m) (Ty.meta n) h = absurd (no_true h)
-  same_is (Ty.param m) (Ty.con c ts) h = absurd (no_true h)
-  same_is (Ty.meta m) (Ty.bound j) h = absurd (no_true h)
-  same_is (Ty.meta m) (Ty.param n) h = absurd (no_true h)
-  same_is (Ty.meta m) (Ty.meta n) h = ap Ty.meta (eqb-true m n h)
-  same_is (Ty.meta m) (Ty.con c ts) h = absurd (no_true h)
-  same_is (Ty.con c ts) (Ty.bound j) h = absurd (no_true h)
-  same_is (Ty.con c ts) (Ty.param n) h = absurd (no_true h)
-  same_is (Ty.con c ts) (Ty.meta n) h = absurd (no_true h)
-  same_is (Ty.con c ts) (Ty.con d us) h =
-      let a = and_true (c == d) (same_types ts us) h in
-      let i = eqb-true c d a.0 in
-      let j = sames_are ts us a.1 in
-      cc
-
-  pub sames_are : (ts us : Tys) → same_types ts us ≡ true → ts ≡ us
-  sames_are Tys.none Tys.none h = refl
-  sames_are Tys.none (Tys.more u us) h = absurd (no_true h)
-  sames_are (Tys.more t ts) Tys.none h = absurd (no_true h)
-  sames_are (Tys.more t ts) (Tys.more u us) h =
-      let a = and_true (same_type t u) (same_types ts us) h in
-      let i = same_is t u a.0 in
-      let j = sames_are ts us a.1 in
-      cc
-
 -- the term of a wanted type
 pub wanted_is : (symbols : List Symbol) (s : Scope) (t : Ty) (e : Expression) (u : Term) → IsExpressionIn symbols s e
     → wanted t e ≡ Ok u → IsTermIn symbols s t u
 wanted_is symbols s t (Expression.term v a) u ok h =
     let b = test_held (same_type v t) (Ok a) (Fault.mismatch (found_type t) (found_type v)) u h in
     subst (λ (x : Term). IsTermIn symbols s t x) (ok_same a u b.1)
-    (subst (λ (x : Ty). IsTermIn symbols s x a) (same_is v t b.0) ok)
+    (subst (λ (x : Ty). IsTermIn symbols s x a) (same_type-true v t b.0) ok)
 wanted_is symbols s t (Expression.atom p ts us) u ok h = absurd (no_ok _ u h)
 
 variable_is : (symbols : List Symbol) (s : Scope) (n : ℕ) (b : Binder) (e : Expression) → IsScope symbols s
@@ -178,7 +132,7 @@ never_any s t h = each_type Never (IsInScope s) (λ p x. absurd x) t h
 result_is : (symbols : List Symbol) → IsSignature symbols → (f : ℕ) (d : Symbol) (r : Ty) → symbol_at symbols f ≡ Some d
     → d.sense ≡ Sense.function r
     → (n : ℕ) × IsType (take n symbols) d.types r × EachInType Never r
-result_is symbols sig zero d r h e = absurd (no (ap (λ (y : Symbol). y.sense) (some_same individuals d h) ∙ e))
+result_is symbols sig zero d r h e = absurd (no (ap (λ (y : Symbol). y.sense) (same_Some individuals d h) ∙ e))
   where
     no : Sense.constructor ≡ Sense.function r → ⊥
     no h = cc
@@ -193,7 +147,7 @@ take_extends n symbols = record { at = go }
     go (suc m) d h = below n m symbols h
       where
         below : (n m : ℕ) (ss : List Symbol) → nth (take n ss) m ≡ Some d → nth ss m ≡ Some d
-        below zero m ss h = absurd (no_some d h)
+        below zero m ss h = absurd (none-some d h)
         below (suc n) m [] h = h
         below (suc n) zero (x ∷ ss) h = h
         below (suc n) (suc m) (x ∷ ss) h = below n m ss h

@@ -2,6 +2,7 @@
 use Rattle.std.proofs.Common.{◌≡◌, ℕ, zero, suc, ◌+◌, ◌-◌, ◌<◌, ◌≤◌, ◌==◌, false, List, [], ◌∷◌, ◌++◌, length, get_or, take, refl, ap, arith, add-one}
 use Rattle.std.proofs.lemmas.List.{take_more}
 use Rattle.std.proofs.lemmas.Bool.{ne_eqb}
+use Rattle.tff_typing.proofs.Walks.{how_many_types}
 use Rattle.zm_logic.specs.Tree as tree
 use Rattle.zm_logic.specs.Tree.{Tys}
 use Rattle.zm_logic.specs.Typing.{how_many, individual}
@@ -69,26 +70,22 @@ filled_step ps ts i d us u l g h e =
       e,
     ) refl
 
-how_many_tree : (ts : List Ty) → how_many (types_tree ts) ≡ length ts
-how_many_tree [] = refl
-how_many_tree (t ∷ ts) = omega (arith, how_many_tree ts)
-
 pub picked_past : (ts : List Ty) (i : ℕ) → length ts ≤ i → tree.Ty.bound i ≡ picked (types_tree ts) i
 picked_past [] i l = refl
 picked_past (t ∷ ts) i l =
     let e : (i == how_many (types_tree ts))
-    ≡ false = ne_eqb i (how_many (types_tree ts)) (λ j. (let h = how_many_tree ts in omega arith)) in
+    ≡ false = ne_eqb i (how_many (types_tree ts)) (λ j. (let h = how_many_types ts in omega arith)) in
     rw e (picked_past ts i (omega arith))
 
 pub picked_here : (ts : List Ty) (i j : ℕ) (d : Ty) → i < length ts → j ≡ length ts - 1 - i → d ≡ get_or ts j d
     → picked (types_tree ts) i ≡ type_tree d
 picked_here [] i j d l e g = absurd (omega arith)
 picked_here (t ∷ ts) i zero d l e g =
-    let h : i ≡ how_many (types_tree ts) = omega (arith, how_many_tree ts) in
+    let h : i ≡ how_many (types_tree ts) = omega (arith, how_many_types ts) in
     rw (h, itself (how_many (types_tree ts)), g) refl
 picked_here (t ∷ ts) i (suc j) d l e g =
     let b : (i == how_many (types_tree ts))
-    ≡ false = ne_eqb i (how_many (types_tree ts)) (λ q. (let h = how_many_tree ts in omega arith)) in
+    ≡ false = ne_eqb i (how_many (types_tree ts)) (λ q. (let h = how_many_types ts in omega arith)) in
     rw b (picked_here ts i j d (omega arith) (omega arith) g)
 
 individuals_push : (n : ℕ) → with_type (individuals_of n) individual ≡ individuals_of (suc n)

@@ -1,6 +1,7 @@
 -- What is given in a type's place is a type over the variables in scope.
 use Rattle.std.proofs.Common.{◌≡◌, ℕ, zero, suc, ◌==◌, Option, Some, None, Ok, List, refl, arith, sym, ap, subst, take}
 use Rattle.std.proofs.lemmas.Bool.{eqb-true}
+use Rattle.std.proofs.lemmas.Option.{same_Some}
 use Rattle.zm_logic.specs.Tree.{Ty, Tys, Symbol, Sense, Binder}
 use Rattle.zm_logic.specs.Typing.{symbol_at, individuals, individual, how_many, IsType, AreTypes, IsSignature, IsSense}
 use Rattle.zm_logic.specs.Parameter.{EachInType, EachInTypes}
@@ -11,7 +12,7 @@ use Rattle.tff_typing.specs.Table.{Table, Numbered, symbols_of, arity, declared,
 use Rattle.tff_typing.specs.Fault.{Fault}
 use Rattle.tff_typing.specs.Places.{if_type, type_variable, if_constructor, constructor_at, type_in, types_in}
 use Rattle.tff_typing.proofs.Outcomes.{both_ok, ok_same, no_ok, test_held}
-use Rattle.tff_typing.proofs.Lookups.{looked_up, found_at, some_same}
+use Rattle.tff_typing.proofs.Lookups.{looked_up, found_at}
 
 -- a type over the variables in scope
 pub record IsTypeIn (symbols : List Symbol) (s : Scope) (t : Ty) : Type 0 where
@@ -35,7 +36,7 @@ pub record IsConstructor (symbols : List Symbol) (c n : ℕ) : Type 0 where
 
 no_arguments : (symbols : List Symbol) → IsSignature symbols → (c : ℕ) (d : Symbol) → symbol_at symbols c ≡ Some d
     → d.sense ≡ Sense.constructor → d.arguments ≡ Tys.none
-no_arguments symbols sig zero d h e = let i = some_same individuals d h in ap (λ (y : Symbol). y.arguments) (sym i)
+no_arguments symbols sig zero d h e = let i = same_Some individuals d h in ap (λ (y : Symbol). y.arguments) (sym i)
 no_arguments symbols sig (suc n) d h e = subst (λ (x : Sense). IsSense (take n symbols) d x) e (sig n d h).2
 
 sense_is : (c m : ℕ) (x : Sense) → if_constructor c x ≡ Ok m → (c ≡ m) × (x ≡ Sense.constructor)

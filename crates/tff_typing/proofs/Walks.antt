@@ -9,6 +9,10 @@ use Rattle.std.proofs.lemmas.Map.Entries.{length-keys_of}
 use Rattle.indexmap.specs.IndexMap.{insert_entry}
 use Rattle.indexmap.specs.IndexSet.{insert_key}
 use Rattle.std.proofs.lemmas.List.Folds.{list_any-append}
+use Rattle.std.proofs.lemmas.Option.{none-some}
+use Rattle.std.proofs.Math.Bool.{or-false, and-true}
+use Rattle.std.proofs.lemmas.Bool.{true≢false, and_right}
+use Rattle.std.proofs.lemmas.Cmp.{nat_list_eq_equiv}
 use Rattle.indexmap.proofs.MapLemmas.{Missing-position, insert_entry-absent}
 use Rattle.zm_logic.specs.Typing.{how_many}
 use Rattle.zm_logic.specs.declared.tree.Ty.{Ty}
@@ -16,7 +20,6 @@ use Rattle.zm_logic.specs.View.{types_tree}
 use Rattle.tff_typing.specs.declared.symbols.Key.{Key}
 use Rattle.tff_typing.specs.declared.symbols.Declaration.{Declaration}
 use Rattle.tff_typing.specs.Table as table
-use Rattle.tff_typing.proofs.Lookups.{no_some}
 use Rattle.tff_typing.specs.View.{entry_tree, numbered_at, was_declared, symbol_of, found_as}
 
 lt_suc : (k n : ℕ) → nat_lt (1 + k) (suc n) ≡ nat_lt k n
@@ -70,26 +73,6 @@ first_placed test check h n (e ∷ es) =
     go true i = rw here refl
     go false i = i ∙ sym (placed_more n e es (position test (keys_of es)))
 
-true_and : (b : Bool) → (b && true) ≡ b
-true_and true = refl
-true_and false = refl
-
-false_and : (b : Bool) → (b && false) ≡ false
-false_and true = refl
-false_and false = refl
-
-true_false : true ≡ false → ⊥
-true_false h = cc
-
-pub bytes_swapped : (x y : List ℕ) → bytes_eq x y ≡ bytes_eq y x
-bytes_swapped x y = go (bytes_eq x y) (bytes_eq y x) refl refl
-  where
-    go : (a b : Bool) → bytes_eq x y ≡ a → bytes_eq y x ≡ b → a ≡ b
-    go true true h i = refl
-    go false false h i = refl
-    go true false h i = absurd (true_false (sym ((bytes_eq-Decides y x).1 (sym ((bytes_eq-Decides x y).0 h))) ∙ i))
-    go false true h i = absurd (true_false (sym ((bytes_eq-Decides x y).1 (sym ((bytes_eq-Decides y x).0 i))) ∙ h))
-
 pub how_many_individuals : (n : ℕ) → how_many (table.individuals_of n) ≡ n
 how_many_individuals zero = refl
 how_many_individuals (suc n) = let h = how_many_individuals n in omega arith
@@ -105,8 +88,8 @@ declared_key x e = go e.0.parts
   where
     go : (o : Option ℕ)
         → (bytes_eq x e.0.name.now && option_eq nat_eq None o) ≡ (was_declared o && bytes_eq e.0.name.now x)
-    go None = true_and (bytes_eq x e.0.name.now) ∙ bytes_swapped x e.0.name.now
-    go (Some n) = false_and (bytes_eq x e.0.name.now)
+    go None = and-true (bytes_eq x e.0.name.now) ∙ (nat_list_eq_equiv.symm x e.0.name.now)
+    go (Some n) = and_right (bytes_eq x e.0.name.now) false refl
 
 -- a key with a number of arguments is that of a symbol that was used with so many
 pub used_key : (x : List ℕ) (n : ℕ) (e : Key × Declaration)
@@ -114,11 +97,11 @@ pub used_key : (x : List ℕ) (n : ℕ) (e : Key × Declaration)
 used_key x n e = go e.0.parts
   where
     swapped : (b : Bool) → (bytes_eq x e.0.name.now && b) ≡ (bytes_eq e.0.name.now x && b)
-    swapped b = ap (λ (y : Bool). y && b) (bytes_swapped x e.0.name.now)
+    swapped b = ap (λ (y : Bool). y && b) (nat_list_eq_equiv.symm x e.0.name.now)
 
     go : (o : Option ℕ) → (bytes_eq x e.0.name.now && option_eq nat_eq (Some n) o)
         ≡ (not (was_declared o) && (bytes_eq e.0.name.now x && (table.arity (symbol_of e.0.name.now o e.1) == n)))
-    go None = false_and (bytes_eq x e.0.name.now)
+    go None = and_right (bytes_eq x e.0.name.now) false refl
     go (Some m) = swapped (nat_eq n m) ∙ ap (λ (b : Bool). bytes_eq e.0.name.now x && b) (same_number n m)
 
 -- the entry that a key finds is that of its symbol
@@ -137,7 +120,7 @@ pub known_any : (x : List ℕ) (n : ℕ) (es : List (Key × Declaration))
     → list_any (λ e. bytes_eq x e.0.name.now) es
     ≡ is_some (table.first_from n (λ e. bytes_eq e.symbol.name x) (map entry_tree es))
 known_any x n [] = refl
-known_any x n (e ∷ es) = rw (bytes_swapped x e.0.name.now) (go (bytes_eq e.0.name.now x) (known_any x (suc n) es))
+known_any x n (e ∷ es) = rw (nat_list_eq_equiv.symm x e.0.name.now) (go (bytes_eq e.0.name.now x) (known_any x (suc n) es))
   where
     go : (b : Bool)
         → list_any (λ e. bytes_eq x e.0.name.now) es
@@ -152,7 +135,7 @@ known_any x n (e ∷ es) = rw (bytes_swapped x e.0.name.now) (go (bytes_eq e.0.n
 there : (n : ℕ) (es : List (Key × Declaration)) (i : ℕ) → i < length es
     → option_map (numbered_at n) (slice_get es i) ≡ None → ⊥
 there n [] i l h = absurd (omega arith)
-there n (e ∷ es) zero l h = no_some (numbered_at n e) (sym h)
+there n (e ∷ es) zero l h = none-some (numbered_at n e) (sym h)
 there n (e ∷ es) (suc i) l h = there n es i (omega arith) h
 
 -- a symbol that isn't found has a new key, which goes last
@@ -189,14 +172,6 @@ any_same : (x y : List ℕ) (ks : List (Bor (List ℕ))) → bytes_eq x y ≡ tr
     → list_any (has_name x) ks ≡ list_any (has_name y) ks
 any_same x y ks h = let e : x ≡ y = (bytes_eq-Decides x y).0 h in rw e refl
 
-or_true : (b : Bool) → (b || true) ≡ true
-or_true true = refl
-or_true false = refl
-
-or_false : (b : Bool) → (b || false) ≡ b
-or_false true = refl
-or_false false = refl
-
 pub one_more_name : (x : List ℕ) (ks : List (Bor (List ℕ))) (k : Bor (List ℕ))
     → list_any (has_name x) (insert_key (λ a b. bytes_eq a.now b.now) ks k)
     ≡ (list_any (has_name x) ks || bytes_eq x k.now)
@@ -208,7 +183,7 @@ one_more_name x ks k = go (list_any (has_name k.now) ks) refl (bytes_eq x k.now)
     go : (b : Bool) → list_any (has_name k.now) ks ≡ b → (e : Bool) → bytes_eq x k.now ≡ e
         → list_any (has_name x) (if b then ks else ks ++ k ∷ []) ≡ (list_any (has_name x) ks || e)
     go true h true i = let s = any_same x k.now ks i in rw (s, h) refl
-    go true h false i = sym (or_false (list_any (has_name x) ks))
+    go true h false i = sym (or-false (list_any (has_name x) ks))
     go false h true i = last ∙ rw i refl
     go false h false i = last ∙ rw i refl
 
@@ -218,11 +193,11 @@ pub one_more_entry : (x : List ℕ) (es : List (Key × Declaration)) (e : Key ×
 one_more_entry x es e =
     list_any-append (λ (y : Key × Declaration). bytes_eq x y.0.name.now) es (e ∷ [])
     ∙ ap (λ (b : Bool). list_any (λ (y : Key × Declaration). bytes_eq x y.0.name.now) es || b)
-    (or_false (bytes_eq x e.0.name.now))
+    (or-false (bytes_eq x e.0.name.now))
 
 pub of_ok : {A E : Type 0} (r : Result A E) (P : Type 0) → IsOk r → IfOk r (λ x. P) → P
 of_ok (Ok x) P i h = h
-of_ok (Err e) P i h = absurd (true_false (sym i))
+of_ok (Err e) P i h = absurd (true≢false (sym i))
 
 pub length_table : (es : List (Key × Declaration)) → length (map entry_tree es) ≡ length es
 length_table [] = refl

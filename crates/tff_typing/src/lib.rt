@@ -18,6 +18,3 @@ mod uses;
 
 pub use fault::{Fault, Found};
 pub use typed::{TypeRefusal, TypeStop, type_problem};
-
-#[cfg(test)]
-mod tests;

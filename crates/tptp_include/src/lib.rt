@@ -9,8 +9,6 @@ mod opening;
 mod reading;
 mod refusal;
 mod selection;
-#[cfg(test)]
-mod tests;
 
 pub use file_name::FileName;
 pub use gathered::{Gathered, GatheredStatement};

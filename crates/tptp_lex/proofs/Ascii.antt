@@ -6,6 +6,7 @@ use Rattle.std.proofs.lemmas.Bool.Decides.{nat_tests}
 use Rattle.std.proofs.lemmas.List.{take_at}
 use Rattle.std.proofs.lemmas.Str.{IsAscii-append}
 use Rattle.std.proofs.lemmas.Str.Ascii.{IsAscii-nil, IsAscii-cons}
+use Rattle.std.proofs.lemmas.Bool.{false≢true}
 use Rattle.tptp_lex.specs.declared.token.TokenKind.{TokenKind}
 use Rattle.tptp_lex.specs.declared.token.TokenKind.TheVariants as kinds
 use Rattle.tptp_lex.specs.Words.{is_small, is_capital, is_word}
@@ -90,9 +91,6 @@ has_text kinds.Number = true
 has_text (kinds.Sign s) = false
 has_text kinds.End = false
 
-false_true : ◌≡◌ {A = Bool} false true → ⊥
-false_true h = cc
-
 row_front : (kind : TokenKind) (bytes rest : List ℕ) → has_text kind ≡ true → Row kind bytes rest → Front bytes rest
 row_front kind bytes rest h (lower {b = b} {bytes = others} s r) = longer b others rest (small_low b s) (run_front is_word others rest word_low r)
 row_front kind bytes rest h (upper {b = b} {bytes = others} s r) = longer b others rest (capital_low b s) (run_front is_word others rest word_low r)
@@ -104,10 +102,10 @@ row_front kind bytes rest h (distinct {b = b} {bytes = others} s i) = longer 34 
 row_front kind bytes rest h (number {middle = middle} {behind = behind} d f e) = number_front bytes middle behind rest d f e
 row_front kind bytes rest h (signed_number {sign = c} {bytes = others} {middle = middle} {behind = behind} k d f e) =
     longer c others rest (either_low 43 45 c (omega arith) (omega arith) k) (number_front others middle behind rest d f e)
-row_front kind bytes rest h (sign e) = absurd (false_true h)
+row_front kind bytes rest h (sign e) = absurd (false≢true h)
 
 token_front : (kind : TokenKind) (bytes rest : List ℕ) → has_text kind ≡ true → IsToken bytes kind rest → Front bytes rest
-token_front kind bytes rest h at_end = absurd (false_true h)
+token_front kind bytes rest h at_end = absurd (false≢true h)
 token_front kind bytes rest h (in_table l) = row_front kind bytes rest h l.row
 
 front_slice : (text : List ℕ) (start end : ℕ) → start ≤ end → end ≤ length text → Front (drop start text) (drop end text) → IsAscii (slice_range text start end)

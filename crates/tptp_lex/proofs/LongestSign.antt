@@ -1,8 +1,9 @@
 -- The first sign of the table that fits is the longest.
 use Rattle.std.proofs.Common.{◌≡◌, ℕ, ◌≤◌, Bool, true, false, cond, List, [], ◌∷◌, length, Option, Some, None, refl, sym, ◌∙◌, ap, subst, arith, inl, inr, ◌⊎◌}
 use Rattle.std.specs.Prelude.{nat_le, ◌&&◌, IfSome}
-use Rattle.std.proofs.lemmas.Bool.{leb-true}
+use Rattle.std.proofs.lemmas.Bool.{leb-true, and_parts, false≢true}
 use Rattle.std.specs.List.{find}
+use Rattle.std.proofs.lemmas.Option.{same_Some}
 use Rattle.tptp_lex.specs.declared.signs.Sign.{Sign}
 use Rattle.tptp_lex.specs.declared.signs.Sign.TheVariants.{Open, Close, OpenList, CloseList, Comma, Stop, Colon, And, Or, Not, Implies, If, Iff, Xor, NotAnd, NotOr, Equal, NotEqual, All, Exists, AllTypes, Arrow, Star, At, Caret, Plus, Minus}
 use Rattle.tptp_lex.specs.declared.signs.TheConstants.{SIGNS}
@@ -24,18 +25,11 @@ abbrev descends : List Sign → Bool
 descends [] = true
 descends (x ∷ xs) = none_longer (length (spelling x)) xs && descends xs
 
-both_true : (s t : Bool) → (s && t) ≡ true → (s ≡ true) × (t ≡ true)
-both_true true t h = (refl, h)
-both_true false t h = cc
-
 no_longer : (n : ℕ) (xs : List Sign) (t : Sign) → none_longer n xs ≡ true → IsIn t xs → length (spelling t) ≤ n
 unfolding IsIn
 no_longer n [] t h i = absurd i
-no_longer n (x ∷ xs) t h (inl e) = subst (λ (u : Sign). length (spelling u) ≤ n) (sym e) (leb-true _ _ (both_true (nat_le (length (spelling x)) n) (none_longer n xs) h).0)
-no_longer n (x ∷ xs) t h (inr i) = no_longer n xs t (both_true (nat_le (length (spelling x)) n) (none_longer n xs) h).1 i
-
-false_true : ◌≡◌ {A = Bool} false true → ⊥
-false_true h = cc
+no_longer n (x ∷ xs) t h (inl e) = subst (λ (u : Sign). length (spelling u) ≤ n) (sym e) (leb-true _ _ (and_parts (nat_le (length (spelling x)) n) (none_longer n xs) h).0)
+no_longer n (x ∷ xs) t h (inr i) = no_longer n xs t (and_parts (nat_le (length (spelling x)) n) (none_longer n xs) h).1 i
 
 at_most : (x t : Sign) (xs : List Sign) → none_longer (length (spelling x)) xs ≡ true → IsIn t (x ∷ xs) → length (spelling t) ≤ length (spelling x)
 unfolding IsIn
@@ -48,7 +42,7 @@ record Longest (p : Sign → Bool) (xs : List Sign) (s : Sign) : Type 0 where
 
 later : (p : Sign → Bool) (x s : Sign) (xs : List Sign) → p x ≡ false → Longest p xs s → (t : Sign) → IsIn t (x ∷ xs) → p t ≡ true → length (spelling t) ≤ length (spelling s)
 unfolding IsIn
-later p x s xs is l t (inl e) h = absurd (false_true (sym is ∙ ap p (sym e) ∙ h))
+later p x s xs is l t (inl e) h = absurd (false≢true (sym is ∙ ap p (sym e) ∙ h))
 later p x s xs is l t (inr i) h = l.others t i h
 
 step : (p : Sign → Bool) (x s : Sign) (xs : List Sign) (b : Bool) → p x ≡ b → none_longer (length (spelling x)) xs ≡ true → (find p xs ≡ Some s → Longest p xs s) → cond b (Some x) (find p xs) ≡ Some s → Longest p (x ∷ xs) s
@@ -59,7 +53,7 @@ step p x s xs false is d next found = record { fits = (next found).fits; others 
 
 first_longest : (p : Sign → Bool) (xs : List Sign) (s : Sign) → descends xs ≡ true → find p xs ≡ Some s → Longest p xs s
 first_longest p [] s d e = absurd (none_some s e)
-first_longest p (x ∷ xs) s d e = let parts = both_true (none_longer (length (spelling x)) xs) (descends xs) d in step p x s xs (p x) refl parts.0 (first_longest p xs s parts.1) e
+first_longest p (x ∷ xs) s d e = let parts = and_parts (none_longer (length (spelling x)) xs) (descends xs) d in step p x s xs (p x) refl parts.0 (first_longest p xs s parts.1) e
 
 each_sign : (t : Sign) → IsIn t SIGNS
 unfolding IsIn
@@ -103,7 +97,7 @@ found_is_longest bytes (Some s) e = first_is_longest bytes s (sym e)
 -- a sign of the table that fits is found
 not_first : (p : Sign → Bool) (t x : Sign) (xs : List Sign) (b : Bool) → p x ≡ b → cond b (Some x) (find p xs) ≡ None → (t ≡ x) ⊎ IsIn t xs → p t ≡ true → (find p xs ≡ None → IsIn t xs → p t ≡ true → ⊥) → ⊥
 not_first p t x xs true is e i h next = none_some x (sym e)
-not_first p t x xs false is e (inl same) h next = false_true (sym is ∙ ap p (sym same) ∙ h)
+not_first p t x xs false is e (inl same) h next = false≢true (sym is ∙ ap p (sym same) ∙ h)
 not_first p t x xs false is e (inr i) h next = next e i h
 
 missing : (p : Sign → Bool) (t : Sign) (xs : List Sign) → find p xs ≡ None → IsIn t xs → p t ≡ true → ⊥
@@ -122,8 +116,8 @@ none_empty (x ∷ xs) = nat_le 1 (length (spelling x)) && none_empty xs
 not_empty : (xs : List Sign) (t : Sign) → none_empty xs ≡ true → IsIn t xs → 1 ≤ length (spelling t)
 unfolding IsIn
 not_empty [] t h i = absurd i
-not_empty (x ∷ xs) t h (inl e) = subst (λ (u : Sign). 1 ≤ length (spelling u)) (sym e) (leb-true _ _ (both_true (nat_le 1 (length (spelling x))) (none_empty xs) h).0)
-not_empty (x ∷ xs) t h (inr i) = not_empty xs t (both_true (nat_le 1 (length (spelling x))) (none_empty xs) h).1 i
+not_empty (x ∷ xs) t h (inl e) = subst (λ (u : Sign). 1 ≤ length (spelling u)) (sym e) (leb-true _ _ (and_parts (nat_le 1 (length (spelling x))) (none_empty xs) h).0)
+not_empty (x ∷ xs) t h (inr i) = not_empty xs t (and_parts (nat_le 1 (length (spelling x))) (none_empty xs) h).1 i
 
 pub has_byte : (s : Sign) → 1 ≤ length (spelling s)
 has_byte s = not_empty SIGNS s refl (each_sign s)
@@ -158,8 +152,5 @@ finds_itself Caret = refl
 finds_itself Plus = refl
 finds_itself Minus = refl
 
-some_sign : (s t : Sign) → Some s ≡ Some t → s ≡ t
-some_sign s t e = cc
-
 pub same_spelling : (s t : Sign) → spelling s ≡ spelling t → s ≡ t
-same_spelling s t e = some_sign s t (sym (finds_itself s) ∙ ap (λ (w : List ℕ). find (begins w) SIGNS) e ∙ finds_itself t)
+same_spelling s t e = same_Some s t (sym (finds_itself s) ∙ ap (λ (w : List ℕ). find (begins w) SIGNS) e ∙ finds_itself t)

@@ -19,6 +19,8 @@ use Rattle.tptp_lex.specs.Lexing.{Reading, IsToken, at_end, in_table, IsNext, Is
 use Rattle.tptp_lex.specs.Found.{Finds, FindsNone}
 use Rattle.tptp_lex.specs.Rows.{NoRow}
 use Rattle.std.proofs.lemmas.List.{drop-drop}
+use Rattle.std.proofs.lemmas.Option.{same_Some, none-some}
+use Rattle.std.proofs.lemmas.Bool.{true≢false}
 use Rattle.tptp_lex.proofs.Suffix.{one_end}
 use Rattle.tptp_lex.proofs.RowsReach.{is_longest, no_row, empty_row, same_longest}
 
@@ -28,12 +30,6 @@ same_place bytes i j p q e =
     let lengths : length bytes - i ≡ length bytes - j = sym (length-drop i bytes) ∙ ap length e ∙ length-drop j bytes in
     omega arith
 
-some_pair : (x y : TokenKind × ℕ) → Some x ≡ Some y → x ≡ y
-some_pair x y e = cc
-
-none_pair : (x : TokenKind × ℕ) → None ≡ Some x → ⊥
-none_pair x e = cc
-
 pub same_token : (t u : Token) → t.kind ≡ u.kind → t.start ≡ u.start → t.end ≡ u.end → t ≡ u
 same_token t u p q r =
     ap (λ k. record { kind = k; start = t.start; end = t.end }) p
@@ -42,7 +38,7 @@ same_token t u p q r =
 
 -- what is found is a token
 token_is : (bytes : List ℕ) (kind : TokenKind) (n : ℕ) → token_at bytes ≡ Some (kind, n) → IsToken bytes kind (drop n bytes)
-token_is [] kind n e = subst (λ (p : TokenKind × ℕ). IsToken [] p.0 (drop p.1 [])) (some_pair (kinds.End, 0) (kind, n) e) at_end
+token_is [] kind n e = subst (λ (p : TokenKind × ℕ). IsToken [] p.0 (drop p.1 [])) (same_Some (kinds.End, 0) (kind, n) e) at_end
 token_is (b ∷ bytes) kind n e = in_table (is_longest b bytes kind n e)
 
 next_of : (text : List ℕ) (from : ℕ) (t : Token) → Finds text from t → IsNext text from t
@@ -61,7 +57,7 @@ next_of text from t n =
 fault_is : (text : List ℕ) (from at : ℕ) → FindsNone text from at → IsFault text from at
 fault_is text from at f = record {
   skips = f.skips;
-  more = λ h. none_pair (kinds.End, 0) (sym f.none ∙ ap token_at h);
+  more = λ h. none-some (kinds.End, 0) (sym f.none ∙ ap token_at h);
   none = no_row (drop at text) f.none;
   after = f.after;
   within = f.within;
@@ -70,7 +66,7 @@ fault_is text from at f = record {
 -- and it is the only one
 pub token_same : (bytes : List ℕ) (kind : TokenKind) (rest : List ℕ) (k : TokenKind) (n : ℕ) → IsToken bytes kind rest → token_at bytes ≡ Some (k, n) → n ≤ length bytes → (k ≡ kind) × (length rest + n ≡ length bytes)
 token_same bytes kind rest k n at_end e le =
-    let pair = some_pair (kinds.End, 0) (k, n) e in
+    let pair = same_Some (kinds.End, 0) (k, n) e in
     let count : 0 ≡ n = ap (λ (p : TokenKind × ℕ). p.1) pair in
     (sym (ap (λ (p : TokenKind × ℕ). p.0) pair), omega arith)
 token_same [] kind rest k n (in_table l) e le = absurd (empty_row kind rest l.row)
@@ -97,7 +93,7 @@ no_fault text from at t n f =
     some_row (drop at text) t.kind (t.end - t.start) (ap token_at (sym rest) ∙ n.row) f.more f.none
 
 pub no_token : (bytes : List ℕ) (kind : TokenKind) (rest : List ℕ) → IsToken bytes kind rest → token_at bytes ≡ None → ⊥
-no_token bytes kind rest at_end e = none_pair (kinds.End, 0) (sym e)
+no_token bytes kind rest at_end e = none-some (kinds.End, 0) (sym e)
 no_token bytes kind rest (in_table l) e = no_row bytes e kind rest l.row
 
 no_next : (text : List ℕ) (from at : ℕ) (t : Token) → FindsNone text from at → IsNext text from t → ⊥
@@ -147,12 +143,9 @@ no_end b bytes =
     (either (b == 34) _ _ (distinct_row (marked_length 34 bytes))
     (number_row (number_length (b ∷ bytes)) (find (begins (b ∷ bytes)) SIGNS))))))
 
-true_false : ◌≡◌ {A = Bool} true false → ⊥
-true_false h = cc
-
 is_end : (rest : List ℕ) (n : ℕ) → token_at rest ≡ Some (kinds.End, n) → rest ≡ []
 is_end [] n e = refl
-is_end (b ∷ bytes) n e = absurd (true_false (sym (ap ends e) ∙ no_end b bytes))
+is_end (b ∷ bytes) n e = absurd (true≢false (sym (ap ends e) ∙ no_end b bytes))
 
 blank_end : (text : List ℕ) (from : ℕ) (t : Token) → Finds text from t → t.kind ≡ kinds.End → OnlyBlank text from
 blank_end text from t n e =

@@ -5,7 +5,7 @@ use Rattle.std.specs.Option.{option_map}
 use Rattle.std.specs.List.{find, starts_with}
 use Rattle.std.proofs.lemmas.List.{drop-drop}
 use Rattle.std.proofs.lemmas.Slice.Eq.{starts_is}
-use Rattle.std.proofs.lemmas.Bool.{eqb-true}
+use Rattle.std.proofs.lemmas.Bool.{eqb-true, false≢true, true≢false}
 use Rattle.std.proofs.lemmas.Bool.Decides.{nat_tests, Decides-eqb}
 use Rattle.tptp_lex.specs.declared.signs.Sign.{Sign}
 use Rattle.tptp_lex.specs.declared.signs.TheConstants.{SIGNS}
@@ -18,16 +18,6 @@ use Rattle.tptp_lex.specs.Signs.{spelling, begins}
 use Rattle.tptp_lex.specs.Tokens.{token_at, dollar_length, marked_length, sign_token, number_or, number_or_sign}
 use Rattle.tptp_lex.specs.Rows.{Run, none, one, is_plain, Inside, closing, plain, escaped, Digits, digits, Fraction, no_fraction, fraction_digits, Exponent, no_exponent, exponent_digits, Row, lower, upper, dollar, dollars, quoted, distinct, number, signed_number, sign}
 use Rattle.tptp_lex.proofs.LongestSign.{first_is_longest}
-
-false_true : ◌≡◌ {A = Bool} false true → ⊥
-false_true h = cc
-
-true_false : ◌≡◌ {A = Bool} true false → ⊥
-true_false h = cc
-
-both_true : (s t : Bool) → (s && t) ≡ true → (s ≡ true) × (t ≡ true)
-both_true true t h = (refl, h)
-both_true false t h = absurd (false_true h)
 
 -- bytes that begin with a spelling are the spelling and the rest
 pub fits_spelling : (bytes word : List ℕ) → starts_with (λ a b. a == b) bytes word ≡ true → bytes ≡ word ++ drop (length word) bytes
@@ -168,7 +158,7 @@ run_first : (b : ℕ) (bytes : List ℕ) → is_digit b ≡ true → run is_digi
 run_first b bytes h = ap (λ (t : Bool). cond t (1 + run is_digit bytes) 0) h
 
 digits_fit : (bytes : List ℕ) → digit_first bytes ≡ true → Digits bytes (drop (run is_digit bytes) bytes)
-digits_fit [] h = absurd (false_true h)
+digits_fit [] h = absurd (false≢true h)
 digits_fit (b ∷ bytes) h = subst (λ (n : ℕ). Digits (b ∷ bytes) (drop n (b ∷ bytes))) (sym (run_first b bytes h)) (digits_case b bytes h)
 
 fraction_on : (b : ℕ) (bytes : List ℕ) → (b == 46 || b == 47) ≡ true → digit_first bytes ≡ true → Fraction (b ∷ bytes) (drop (1 + run is_digit bytes) (b ∷ bytes))
@@ -193,12 +183,12 @@ exponent_on b c bytes h g d = subst (λ (xs : List ℕ). Exponent (b ∷ c ∷ b
 signed_case : (c : ℕ) (bytes : List ℕ) (s t : Bool) → (c == 43 || c == 45) ≡ s → digit_first bytes ≡ t → Signed (c ∷ bytes) (cond (s && t) (1 + run is_digit bytes) 0)
 unfolding Signed
 signed_case c bytes true true g d = λ b h z. exponent_on b c bytes h g d
-signed_case c bytes true false g d = λ b h z. absurd (true_false z)
-signed_case c bytes false t g d = λ b h z. absurd (true_false z)
+signed_case c bytes true false g d = λ b h z. absurd (true≢false z)
+signed_case c bytes false t g d = λ b h z. absurd (true≢false z)
 
 signed_fits : (bytes : List ℕ) → Signed bytes (signed_digits bytes)
 unfolding Signed
-signed_fits [] = λ b h z. absurd (true_false z)
+signed_fits [] = λ b h z. absurd (true≢false z)
 signed_fits (c ∷ bytes) = signed_case c bytes (c == 43 || c == 45) (digit_first bytes) refl refl
 
 exponent_case : (b : ℕ) (bytes : List ℕ) (s t : Bool) → (b == 69 || b == 101) ≡ s → (signed_digits bytes == 0) ≡ t → Exponent (b ∷ bytes) (drop (cond (s && not t) (1 + signed_digits bytes) 0) (b ∷ bytes))

@@ -1,7 +1,7 @@
 -- No row of the table goes on further than what the lexer takes.
 use Rattle.std.proofs.Common.{◌≡◌, ℕ, suc, ◌+◌, ◌-◌, ◌<◌, ◌≤◌, Bool, true, false, cond, List, [], ◌∷◌, ◌++◌, length, take, drop, length-drop, Option, Some, None, refl, sym, ◌∙◌, ap, subst, arith, inl, inr, ◌⊎◌}
 use Rattle.std.proofs.Math.Seq.{take-append_seam}
-use Rattle.std.proofs.lemmas.Bool.{cases_lt}
+use Rattle.std.proofs.lemmas.Bool.{cases_lt, and_from, false≢true, true≢false}
 use Rattle.std.specs.Prelude.{◌==◌, ◌&&◌, ◌||◌, not, nat_lt}
 use Rattle.std.specs.Option.{option_map}
 use Rattle.std.specs.List.{find}
@@ -21,12 +21,6 @@ use Rattle.tptp_lex.specs.Tokens.{token_at, marked_length, sign_token, number_or
 use Rattle.tptp_lex.specs.Rows.{Run, none, one, is_plain, Inside, closing, plain, escaped, Digits, digits, Fraction, no_fraction, fraction_digits, Exponent, no_exponent, exponent_digits, Row, lower, upper, dollar, dollars, quoted, distinct, number, signed_number, sign, IsLongest, NoRow}
 use Rattle.tptp_lex.proofs.LongestSign.{first_is_longest, sign_found, has_byte, same_spelling}
 use Rattle.tptp_lex.proofs.RowsFit.{token_fits, Fits}
-
-false_true : ◌≡◌ {A = Bool} false true → ⊥
-false_true h = cc
-
-true_false : ◌≡◌ {A = Bool} true false → ⊥
-true_false h = cc
 
 -- tests of one byte that rule each other out
 capital_small : (b : ℕ) → is_capital b ≡ true → is_small b ≡ false
@@ -81,10 +75,10 @@ Reaches kind bytes rest (Some p) = (length bytes ≤ p.1 + length rest) × ((p.0
 
 yes : (kind : TokenKind) (bytes rest : List ℕ) (t : Bool) (x y : Option (TokenKind × ℕ)) → t ≡ true → Reaches kind bytes rest x → Reaches kind bytes rest (cond t x y)
 yes kind bytes rest true x y h r = r
-yes kind bytes rest false x y h r = absurd (false_true h)
+yes kind bytes rest false x y h r = absurd (false≢true h)
 
 no : (kind : TokenKind) (bytes rest : List ℕ) (t : Bool) (x y : Option (TokenKind × ℕ)) → t ≡ false → Reaches kind bytes rest y → Reaches kind bytes rest (cond t x y)
-no kind bytes rest true x y h r = absurd (true_false h)
+no kind bytes rest true x y h r = absurd (true≢false h)
 no kind bytes rest false x y h r = r
 
 run_most : (test : ℕ → Bool) (bytes rest : List ℕ) → Run test bytes rest → length bytes ≤ run test bytes + length rest
@@ -98,15 +92,15 @@ dollar_of n = (kinds.Dollar, 1 + n)
 
 dollar_word : (bytes rest : List ℕ) (n : ℕ) (t : Bool) → t ≡ true → length bytes ≤ 1 + (1 + n) + length rest → Reaches kinds.Dollar bytes rest (option_map dollar_of (cond t (Some (1 + n)) None))
 dollar_word bytes rest n true h r = (r, inl refl)
-dollar_word bytes rest n false h r = absurd (false_true h)
+dollar_word bytes rest n false h r = absurd (false≢true h)
 
 dollar_first : (bytes rest : List ℕ) (t : Bool) (x y : Option ℕ) → t ≡ false → Reaches kinds.Dollar bytes rest (option_map dollar_of y) → Reaches kinds.Dollar bytes rest (option_map dollar_of (cond t x y))
-dollar_first bytes rest true x y h r = absurd (true_false h)
+dollar_first bytes rest true x y h r = absurd (true≢false h)
 dollar_first bytes rest false x y h r = r
 
 dollars_word : (bytes rest : List ℕ) (n : ℕ) (t : Bool) → t ≡ true → length bytes ≤ 1 + (1 + (1 + n)) + length rest → Reaches kinds.Dollar bytes rest (option_map dollar_of (option_map (λ n. 1 + n) (cond t (Some (1 + n)) None)))
 dollars_word bytes rest n true h r = (r, inl refl)
-dollars_word bytes rest n false h r = absurd (false_true h)
+dollars_word bytes rest n false h r = absurd (false≢true h)
 
 -- up to the closing mark
 abbrev Closes : List ℕ → List ℕ → Option ℕ → Type 0
@@ -115,10 +109,10 @@ Closes bytes rest (Some n) = length bytes ≤ n + length rest
 
 closes_yes : (bytes rest : List ℕ) (t : Bool) (x y : Option ℕ) → t ≡ true → Closes bytes rest x → Closes bytes rest (cond t x y)
 closes_yes bytes rest true x y h r = r
-closes_yes bytes rest false x y h r = absurd (false_true h)
+closes_yes bytes rest false x y h r = absurd (false≢true h)
 
 closes_no : (bytes rest : List ℕ) (t : Bool) (x y : Option ℕ) → t ≡ false → Closes bytes rest y → Closes bytes rest (cond t x y)
-closes_no bytes rest true x y h r = absurd (true_false h)
+closes_no bytes rest true x y h r = absurd (true≢false h)
 closes_no bytes rest false x y h r = r
 
 one_on : (b : ℕ) (bytes rest : List ℕ) (o : Option ℕ) → Closes bytes rest o → Closes (b ∷ bytes) rest (option_map (λ n. 1 + n) o)
@@ -233,10 +227,10 @@ unsigned_most bytes middle behind rest (digits {b = b} {bytes = others} h r) f e
 
 number_yes : (bytes rest : List ℕ) (t : Bool) (n : ℕ) (y : Option ℕ) (o : Option (TokenKind × ℕ)) → t ≡ true → length bytes ≤ n + length rest → Reaches kinds.Number bytes rest (number_or (cond t (Some n) y) o)
 number_yes bytes rest true n y o h le = (le, inl refl)
-number_yes bytes rest false n y o h le = absurd (false_true h)
+number_yes bytes rest false n y o h le = absurd (false≢true h)
 
 number_no : (kind : TokenKind) (bytes rest : List ℕ) (t : Bool) (x y : Option ℕ) (o : Option (TokenKind × ℕ)) → t ≡ false → Reaches kind bytes rest (number_or y o) → Reaches kind bytes rest (number_or (cond t x y) o)
-number_no kind bytes rest true x y o h r = absurd (true_false h)
+number_no kind bytes rest true x y o h r = absurd (true≢false h)
 number_no kind bytes rest false x y o h r = r
 
 -- a byte that begins no other row
@@ -248,10 +242,6 @@ other_first kind b bytes rest p q d s t r =
     (no kind (b ∷ bytes) rest (b == 39) _ _ s
     (no kind (b ∷ bytes) rest (b == 34) _ _ t r))))
 
-both : (s t : Bool) → s ≡ true → t ≡ true → (s && t) ≡ true
-both true t p q = q
-both false t p q = absurd (false_true p)
-
 -- signs
 abbrev sign_here : List ℕ → Option (TokenKind × ℕ)
 sign_here bytes = sign_token (find (begins bytes) SIGNS)
@@ -260,7 +250,7 @@ sign_begins : (s : Sign) (rest : List ℕ) → begins (spelling s ++ rest) s ≡
 sign_begins s rest = (starts_is Decides-eqb (spelling s ++ rest) (spelling s) (begins (spelling s ++ rest) s) refl).1 rest refl
 
 unsigned_some : (bytes : List ℕ) → digit_first bytes ≡ true → 1 ≤ unsigned bytes
-unsigned_some [] h = absurd (false_true h)
+unsigned_some [] h = absurd (false≢true h)
 unsigned_some (b ∷ bytes) h = (let first = run_first b bytes h in omega arith)
 
 same_front : (s t : Sign) (rest behind : List ℕ) → spelling s ++ rest ≡ spelling t ++ behind → length (spelling s) ≡ length (spelling t) → spelling s ≡ spelling t
@@ -338,7 +328,7 @@ reaches kind bytes rest (number {middle = middle} {behind = behind} (digits {b =
 reaches kind bytes rest (signed_number {sign = c} {bytes = others} {middle = middle} {behind = behind} h d f e) =
     other_first kinds.Number c others rest (sign_small c h) (sign_capital c h) (sign_not c 36 (omega arith) h) (sign_not c 39 (omega arith) h) (sign_not c 34 (omega arith) h)
     (number_no kinds.Number (c ∷ others) rest (is_digit c) _ _ _ (sign_digit c h)
-    (number_yes (c ∷ others) rest ((c == 43 || c == 45) && digit_first others) (1 + unsigned others) _ _ (both (c == 43 || c == 45) (digit_first others) h (digits_first others middle d))
+    (number_yes (c ∷ others) rest ((c == 43 || c == 45) && digit_first others) (1 + unsigned others) _ _ (and_from (c == 43 || c == 45) (digit_first others) h (digits_first others middle d))
     (let most = unsigned_most others middle behind rest d f e in omega arith)))
 reaches kind bytes rest (sign {s = s} e) =
     subst (λ (xs : List ℕ). Reaches (kinds.Sign s) xs rest (token_at xs)) (sym e) (sign_reaches s rest (found_case s rest (find (begins (spelling s ++ rest)) SIGNS) refl))
@@ -358,7 +348,7 @@ no_row bytes e kind rest r = subst (λ (o : Option (TokenKind × ℕ)). Reaches 
 
 -- no row has the empty text
 pub empty_row : (kind : TokenKind) (rest : List ℕ) → Row kind [] rest → ⊥
-empty_row kind rest (number {middle = middle} d f e) = false_true (digits_first [] middle d)
+empty_row kind rest (number {middle = middle} d f e) = false≢true (digits_first [] middle d)
 empty_row kind rest (sign {s = s} e) =
     let some = has_byte s in
     let sum : 0 ≡ length (spelling s) + length rest = ap length e ∙ length-append (spelling s) rest in

@@ -5,17 +5,12 @@ use Rattle.std.proofs.lemmas.List.{drop-drop, take_rest}
 use Rattle.std.proofs.Math.ListN.{drop_of_length-le}
 use Rattle.std.proofs.Math.Seq.{drop-length}
 use Rattle.std.proofs.lemmas.Bool.{cases_lt}
+use Rattle.std.proofs.lemmas.Option.{same_Some, none-some}
 use Rattle.tptp_lex.specs.Blank.{after_line, after_block, after_slash, starts_with, one_blank, is_white, Skips, here, over}
 
 pub record IsEnd (rest bytes : List ℕ) : Type 0 where
   pub from : ℕ
   pub same : rest ≡ drop from bytes
-
-some_same : (x y : List ℕ) → Some x ≡ Some y → x ≡ y
-some_same x y e = cc
-
-none_some : (x : List ℕ) → None ≡ Some x → ⊥
-none_some x e = cc
 
 later : (b : ℕ) (rest bytes : List ℕ) → IsEnd rest bytes → IsEnd rest (b ∷ bytes)
 later b rest bytes e = record { from = suc e.from; same = e.same }
@@ -29,11 +24,11 @@ line_end [] = record { from = 0; same = refl }
 line_end (b ∷ bytes) = line_step (b == 10) b bytes (line_end bytes)
 
 block_step : (t : Bool) (b : ℕ) (bytes rest : List ℕ) → (after_block bytes ≡ Some rest → IsEnd rest bytes) → cond t (Some (drop 1 bytes)) (after_block bytes) ≡ Some rest → IsEnd rest (b ∷ bytes)
-block_step true b bytes rest next e = record { from = 2; same = sym (some_same (drop 1 bytes) rest e) }
+block_step true b bytes rest next e = record { from = 2; same = sym (same_Some (drop 1 bytes) rest e) }
 block_step false b bytes rest next e = later b rest bytes (next e)
 
 block_end : (bytes rest : List ℕ) → after_block bytes ≡ Some rest → IsEnd rest bytes
-block_end [] rest e = absurd (none_some rest e)
+block_end [] rest e = absurd (none-some rest e)
 block_end (b ∷ bytes) rest e = block_step (b == 42 && starts_with 47 bytes) b bytes rest (block_end bytes rest) e
 
 either : (t : Bool) (x y : Option (List ℕ)) (r bytes : List ℕ) → cond t x y ≡ Some r → (x ≡ Some r → IsEnd r bytes) → (y ≡ Some r → IsEnd r bytes) → IsEnd r bytes
@@ -41,20 +36,20 @@ either true x y r bytes e p q = p e
 either false x y r bytes e p q = q e
 
 slash_end : (bytes rest : List ℕ) → after_slash bytes ≡ Some rest → IsEnd rest bytes
-slash_end [] rest e = absurd (none_some rest e)
-slash_end (b ∷ bytes) rest e = either (b == 42) (after_block bytes) None rest (b ∷ bytes) e (λ f. later b rest bytes (block_end bytes rest f)) (λ f. absurd (none_some rest f))
+slash_end [] rest e = absurd (none-some rest e)
+slash_end (b ∷ bytes) rest e = either (b == 42) (after_block bytes) None rest (b ∷ bytes) e (λ f. later b rest bytes (block_end bytes rest f)) (λ f. absurd (none-some rest f))
 
 line_some : (bytes rest : List ℕ) → Some (after_line bytes) ≡ Some rest → IsEnd rest bytes
-line_some bytes rest e = let l = line_end bytes in record { from = l.from; same = sym (some_same (after_line bytes) rest e) ∙ l.same }
+line_some bytes rest e = let l = line_end bytes in record { from = l.from; same = sym (same_Some (after_line bytes) rest e) ∙ l.same }
 
 blank_end : (bytes rest : List ℕ) → one_blank bytes ≡ Some rest → IsEnd rest bytes
-blank_end [] rest e = absurd (none_some rest e)
+blank_end [] rest e = absurd (none-some rest e)
 blank_end (b ∷ bytes) rest e =
     either (is_white b) (Some bytes) (cond (b == 37) (Some (after_line bytes)) (cond (b == 47) (after_slash bytes) None)) rest (b ∷ bytes) e
-    (λ f. record { from = 1; same = sym (some_same bytes rest f) })
+    (λ f. record { from = 1; same = sym (same_Some bytes rest f) })
     (λ f. either (b == 37) (Some (after_line bytes)) (cond (b == 47) (after_slash bytes) None) rest (b ∷ bytes) f
     (λ g. later b rest bytes (line_some bytes rest g))
-    (λ g. either (b == 47) (after_slash bytes) None rest (b ∷ bytes) g (λ h. later b rest bytes (slash_end bytes rest h)) (λ h. absurd (none_some rest h))))
+    (λ g. either (b == 47) (after_slash bytes) None rest (b ∷ bytes) g (λ h. later b rest bytes (slash_end bytes rest h)) (λ h. absurd (none-some rest h))))
 
 pub skips_end : (bytes rest : List ℕ) → Skips bytes rest → IsEnd rest bytes
 skips_end bytes rest (here e) = record { from = 0; same = refl }
@@ -66,10 +61,10 @@ skips_end bytes rest (over {after = after} e skips) =
 -- white space and comments lead to one place alone
 pub one_end : (bytes xs ys : List ℕ) → Skips bytes xs → Skips bytes ys → xs ≡ ys
 one_end bytes xs ys (here e) (here f) = refl
-one_end bytes xs ys (here e) (over {after = after} f q) = absurd (none_some after (sym e ∙ f))
-one_end bytes xs ys (over {after = after} e p) (here f) = absurd (none_some after (sym f ∙ e))
+one_end bytes xs ys (here e) (over {after = after} f q) = absurd (none-some after (sym e ∙ f))
+one_end bytes xs ys (over {after = after} e p) (here f) = absurd (none-some after (sym f ∙ e))
 one_end bytes xs ys (over {after = a} e p) (over {after = b} f q) =
-    let same : a ≡ b = some_same a b (sym e ∙ f) in
+    let same : a ≡ b = same_Some a b (sym e ∙ f) in
     one_end a xs ys p (subst (λ (ts : List ℕ). Skips ts ys) (sym same) q)
 
 -- an end of the text begins where its length says

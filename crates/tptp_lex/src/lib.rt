@@ -28,6 +28,3 @@ mod words;
 pub use lexer::{LexFault, Lexer, Token};
 pub use signs::Sign;
 pub use token::TokenKind;
-
-#[cfg(test)]
-mod tests;

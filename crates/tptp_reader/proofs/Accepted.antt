@@ -4,6 +4,7 @@ use Rattle.std.specs.Prelude.{nat_le, codes, IfOk}
 use Rattle.std.specs.Option.{option_map}
 use Rattle.std.specs.Str.{bytes_eq}
 use Rattle.std.proofs.lemmas.Bool.Decides.{nat_tests}
+use Rattle.std.proofs.lemmas.Option.{none-some, same_Some}
 use Rattle.tptp_lex.specs.declared.signs.Sign.TheVariants.{Open}
 use Rattle.tptp_reader.specs.declared.tree.RawRole.{RawRole}
 use Rattle.tptp_reader.specs.declared.statement.Body.{Body}
@@ -24,7 +25,6 @@ use Rattle.tptp_reader.specs.SlowStatements.{lower_in, is_ending, with_ending, w
 use Rattle.tptp_reader.specs.Kept.{forms, whole, too_deep, kept, limited, Makes, parsed_tree}
 use Rattle.tptp_reader.specs.View.{body_tree}
 use Rattle.tptp_reader.specs.Accepted.{Accepts}
-use Rattle.tptp_reader.proofs.Behind.{some_not_none, same_some}
 use Rattle.tptp_reader.proofs.Natural.{carried, kept_formula}
 use Rattle.tptp_reader.proofs.StatementSound.{typed_back, inclusion_back, statement_sound}
 use Rattle.tptp_reader.proofs.StatementComplete.{IsShallow, statement_complete}
@@ -99,8 +99,8 @@ record Known (o : Option RawStatement) (k : Option RawStatement) : Type 0 where
   keeps : within_depth statement ≡ k
 
 known : (o : Option RawStatement) (k : Option RawStatement) → option_map within_depth o ≡ Some k → Known o k
-known None k e = absurd (some_not_none k e)
-known (Some s) k e = record { statement = s; reads = refl; keeps = same_some (within_depth s) k e }
+known None k e = absurd (none-some k e)
+known (Some s) k e = record { statement = s; reads = refl; keeps = same_Some (within_depth s) k e }
 
 not_deeper : (n : ℕ) → nat_le n 1000 ≡ true → n ≤ 1000
 not_deeper n e = grind (arith, nat_tests, e)
@@ -110,22 +110,22 @@ deeper n e = grind (arith, nat_tests, e)
 
 -- a statement that is kept
 kept_by : (name : Name) (role : RawRole) (f : RawForm) (n : ℕ) (s : RawStatement) (b : Bool) → nat_le n 1000 ≡ b → kept_stated name role (cond b (whole f n) too_deep) ≡ Some s → (RawStatement.formula name role f ≡ s) × (n ≤ 1000)
-kept_by name role f n s true e h = (same_some (RawStatement.formula name role f) s h, not_deeper n e)
-kept_by name role f n s false e h = absurd (some_not_none s h)
+kept_by name role f n s true e h = (same_Some (RawStatement.formula name role f) s h, not_deeper n e)
+kept_by name role f n s false e h = absurd (none-some s h)
 
 kept_is : (t s : RawStatement) → within_depth t ≡ Some s → (t ≡ s) × (formula_depth t ≤ 1000)
 kept_is (RawStatement.formula name role f) s e = kept_by name role f (raw_depth f) s (nat_le (raw_depth f) 1000) refl e
-kept_is (RawStatement.typing name subject top) s e = (same_some (RawStatement.typing name subject top) s e, omega arith)
-kept_is (RawStatement.inclusion file names) s e = (same_some (RawStatement.inclusion file names) s e, omega arith)
+kept_is (RawStatement.typing name subject top) s e = (same_Some (RawStatement.typing name subject top) s e, omega arith)
+kept_is (RawStatement.inclusion file names) s e = (same_Some (RawStatement.inclusion file names) s e, omega arith)
 
 lost_by : (name : Name) (role : RawRole) (f : RawForm) (n : ℕ) (b : Bool) → nat_le n 1000 ≡ b → kept_stated name role (cond b (whole f n) too_deep) ≡ None → 1000 < n
-lost_by name role f n true e h = absurd (some_not_none _ (sym h))
+lost_by name role f n true e h = absurd (none-some _ (sym h))
 lost_by name role f n false e h = deeper n e
 
 lost_is : (t : RawStatement) → within_depth t ≡ None → 1000 < formula_depth t
 lost_is (RawStatement.formula name role f) e = lost_by name role f (raw_depth f) (nat_le (raw_depth f) 1000) refl e
-lost_is (RawStatement.typing name subject top) e = absurd (some_not_none _ (sym e))
-lost_is (RawStatement.inclusion file names) e = absurd (some_not_none _ (sym e))
+lost_is (RawStatement.typing name subject top) e = absurd (none-some _ (sym e))
+lost_is (RawStatement.inclusion file names) e = absurd (none-some _ (sym e))
 
 within_limits : (s : RawStatement) → IsShallow s → formula_depth s ≤ 1000 → IsWithinLimits s
 within_limits (RawStatement.formula name role f) h le = (h, le)
@@ -149,13 +149,13 @@ accepted tokens p e m = accepts_known tokens p e (known (statement_in forms stat
 
 none_known : (o : Option RawStatement) → option_map within_depth o ≡ None → o ≡ None
 none_known None e = refl
-none_known (Some s) e = absurd (some_not_none (within_depth s) (sym e))
+none_known (Some s) e = absurd (none-some (within_depth s) (sym e))
 
 -- and where the parser tells of a syntax fault there is no statement
 pub refused : (tokens : List Token) (s : RawStatement) → early_fault tokens ≡ None → Makes parsed_tree (Err Syntax) (statement_in limited kept_statements tokens) → IsStatement tokens s → ⊥
 refused tokens s e m d =
     let none = none_known (statement_in forms statements tokens) (sym (statement_kept tokens) ∙ m) in
-    some_not_none s (sym none ∙ (statement_complete tokens s e d).reads)
+    none-some s (sym none ∙ (statement_complete tokens s e d).reads)
 
 -- the same, of what the parser returned
 pub accepted_result : (tokens : List Token) (r : Result Parsed ParseStop) → early_fault tokens ≡ None → Makes parsed_tree r (statement_in limited kept_statements tokens) → IfOk r (λ p. Accepts tokens p)

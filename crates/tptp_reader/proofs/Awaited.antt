@@ -1,6 +1,8 @@
 -- One more token is taken.
 use Rattle.std.proofs.Common.{◌≡◌, ℕ, ◌-◌, ◌<◌, ◌≤◌, Bool, true, false, List, [], ◌∷◌, ◌++◌, length, Option, Some, None, append-nil, append_assoc, refl, sym, ◌∙◌, ap, subst, arith}
 use Rattle.std.specs.Prelude.{◌≢◌, IfSome, slice_range}
+use Rattle.std.proofs.lemmas.Option.{same_Some, none-some}
+use Rattle.std.proofs.lemmas.Bool.{false≢true}
 use Rattle.tptp_lex.specs.declared.lexer.Token as lex
 use Rattle.tptp_lex.specs.declared.token.TokenKind.{TokenKind}
 use Rattle.tptp_lex.specs.declared.token.TokenKind.TheVariants.{End}
@@ -18,22 +20,13 @@ use Rattle.tptp_reader.proofs.Innermost.{token_behind}
 use Rattle.tptp_reader.specs.Answers.{IsWide, Answer, Refusal, Answers, at_fault, not_wide}
 use Rattle.tptp_reader.specs.Scanning.{NoToken, Taken, Takes, NotNext, NotWide, Awaits, Moves, is_lower, opens, closes, nothing}
 
-some_token : (x y : Token) → Some x ≡ Some y → x ≡ y
-some_token x y e = cc
-
-none_token : (x : Token) → None ≡ Some x → ⊥
-none_token x e = cc
-
-false_true : ◌≡◌ {A = Bool} false true → ⊥
-false_true h = cc
-
 -- the first of some tokens is the one that comes next
 pub same_first : (text : List ℕ) (from : ℕ) (t u : lex.Token) (token other : Token) →
     IsNext text from t → token_of t.kind (slice_range text t.start t.end) ≡ Some token →
     IsNext text from u → token_of u.kind (slice_range text u.start u.end) ≡ Some other → (t ≡ u) × (token ≡ other)
 same_first text from t u token other n e m f =
     let same = one_next_token text from t u n m in
-    (same, some_token token other (sym e ∙ ap (λ v. token_of v.kind (slice_range text v.start v.end)) same ∙ f))
+    (same, same_Some token other (sym e ∙ ap (λ v. token_of v.kind (slice_range text v.start v.end)) same ∙ f))
 
 pub at_front : (text : List ℕ) (from : ℕ) → Awaits from record { text = text; tokens = []; places = []; reached = from } is_wide
 at_front text from = record {
@@ -63,7 +56,7 @@ none_behind : (text : List ℕ) (from : ℕ) (left next : List Token → Bool) (
     ((rest : List Token) → left (token ∷ rest) ≡ next rest) →
     ((rest : List Token) (places : List ℕ) (after : ℕ) → Tokens text t.end rest places after → next rest ≡ true → ⊥) →
     (rest : List Token) (places : List ℕ) (after : ℕ) → Tokens text from rest places after → left rest ≡ true → ⊥
-none_behind text from left next token t n e empty same absent rest places after none h = false_true (sym empty ∙ h)
+none_behind text from left next token t n e empty same absent rest places after none h = false≢true (sym empty ∙ h)
 none_behind text from left next token t n e empty same absent rest places after (one_more {t = u} {token = other} {tokens = others} {places = more} m f ts) h =
     let both = same_first text from t u token other n e m f in
     absent others more after (subst (λ (v : lex.Token). Tokens text v.end others more after) (sym both.0) ts)
@@ -80,13 +73,13 @@ awaits_next from s after left next token takes empty same a =
 pub awaits_other : (from : ℕ) (s after : Taken) (left : List Token → Bool) (token : Token) →
     Takes s after token → left [] ≡ false → ((rest : List Token) → left (token ∷ rest) ≡ false) → Awaits from s left → NotWide s.text from
 awaits_other from s after left token takes empty same a =
-    a.only (none_behind s.text s.reached left (λ rest. false) token takes.t takes.next takes.spelled empty same (λ rest places behind ts h. false_true h))
+    a.only (none_behind s.text s.reached left (λ rest. false) token takes.t takes.next takes.spelled empty same (λ rest places behind ts h. false≢true h))
 
 no_token : (text : List ℕ) (from : ℕ) (left : List Token → Bool) → NoToken text from → left [] ≡ false →
     (rest : List Token) (places : List ℕ) (after : ℕ) → Tokens text from rest places after → left rest ≡ true → ⊥
-no_token text from left absent empty rest places after none h = false_true (sym empty ∙ h)
+no_token text from left absent empty rest places after none h = false≢true (sym empty ∙ h)
 no_token text from left absent empty rest places after (one_more {t = u} {token = other} m f ts) h =
-    none_token other (sym (ap (λ k. token_of k (slice_range text u.start u.end)) (absent u m)) ∙ f)
+    none-some other (sym (ap (λ k. token_of k (slice_range text u.start u.end)) (absent u m)) ∙ f)
 
 pub awaits_none : (from : ℕ) (s : Taken) (left : List Token → Bool) → NoToken s.text s.reached → left [] ≡ false → Awaits from s left → NotWide s.text from
 awaits_none from s left absent empty a = a.only (no_token s.text s.reached left absent empty)
@@ -96,12 +89,12 @@ pub one_taken : (s after behind : Taken) (token other : Token) → Takes s after
 one_taken s after behind token other p q = (same_first s.text s.reached p.t q.t token other p.next p.spelled q.next q.spelled).1
 
 pub none_taken : (s after : Taken) (token : Token) → NoToken s.text s.reached → Takes s after token → ⊥
-none_taken s after token absent p = none_token token (sym (ap (λ k. token_of k (slice_range s.text p.t.start p.t.end)) (absent p.t p.next)) ∙ p.spelled)
+none_taken s after token absent p = none-some token (sym (ap (λ k. token_of k (slice_range s.text p.t.start p.t.end)) (absent p.t p.next)) ∙ p.spelled)
 
 one_wanted : (s : Taken) (left : List Token → Bool) (wanted : Token) → left [] ≡ false →
     ((token : Token) (rest : List Token) → left (token ∷ rest) ≡ true → token ≡ wanted) → NotNext s wanted →
     (rest : List Token) (places : List ℕ) (after : ℕ) → Tokens s.text s.reached rest places after → left rest ≡ true → ⊥
-one_wanted s left wanted empty only other rest places after none h = false_true (sym empty ∙ h)
+one_wanted s left wanted empty only other rest places after none h = false≢true (sym empty ∙ h)
 one_wanted s left wanted empty only other rest places after (one_more {t = u} {token = token} {tokens = others} m f ts) h =
     let same : token ≡ wanted = only token others h in
     other _ record { t = u; next = m; spelled = f ∙ ap Some same; same = refl }
@@ -153,13 +146,13 @@ lower_opens text (sign s ∷ rest) = sign_opens text s rest
 
 pub lower_moves : (r : Bool) (s after : Taken) (token : Token) → Takes s after token → r ≡ is_lower token → Moves r s after is_wide opens
 lower_moves true s after (lower text) takes e = (ap (λ (x : Taken). x.text) takes.same, λ from a. awaits_next from s after is_wide opens (lower text) takes refl (lower_opens text) a)
-lower_moves true s after (upper text) takes e = absurd (false_true (sym e))
-lower_moves true s after (defined word) takes e = absurd (false_true (sym e))
-lower_moves true s after (quoted text) takes e = absurd (false_true (sym e))
-lower_moves true s after distinct takes e = absurd (false_true (sym e))
-lower_moves true s after (number text) takes e = absurd (false_true (sym e))
-lower_moves true s after (sign x) takes e = absurd (false_true (sym e))
-lower_moves false s after (lower text) takes e = absurd (false_true e)
+lower_moves true s after (upper text) takes e = absurd (false≢true (sym e))
+lower_moves true s after (defined word) takes e = absurd (false≢true (sym e))
+lower_moves true s after (quoted text) takes e = absurd (false≢true (sym e))
+lower_moves true s after distinct takes e = absurd (false≢true (sym e))
+lower_moves true s after (number text) takes e = absurd (false≢true (sym e))
+lower_moves true s after (sign x) takes e = absurd (false≢true (sym e))
+lower_moves false s after (lower text) takes e = absurd (false≢true e)
 lower_moves false s after (upper text) takes e = λ from a. awaits_other from s after is_wide (upper text) takes refl (λ rest. refl) a
 lower_moves false s after (defined word) takes e = λ from a. awaits_other from s after is_wide (defined word) takes refl (λ rest. refl) a
 lower_moves false s after (quoted text) takes e = λ from a. awaits_other from s after is_wide (quoted text) takes refl (λ rest. refl) a
@@ -170,40 +163,40 @@ lower_moves false s after (sign x) takes e = λ from a. awaits_other from s afte
 -- the open bracket
 sign_wanted : (s : Sign) (rest : List Token) → opens (sign s ∷ rest) ≡ true → sign s ≡ sign Open
 sign_wanted Open rest h = refl
-sign_wanted OpenList rest h = absurd (false_true h)
-sign_wanted Close rest h = absurd (false_true h)
-sign_wanted CloseList rest h = absurd (false_true h)
-sign_wanted Comma rest h = absurd (false_true h)
-sign_wanted Stop rest h = absurd (false_true h)
-sign_wanted Colon rest h = absurd (false_true h)
-sign_wanted And rest h = absurd (false_true h)
-sign_wanted Or rest h = absurd (false_true h)
-sign_wanted Not rest h = absurd (false_true h)
-sign_wanted Implies rest h = absurd (false_true h)
-sign_wanted If rest h = absurd (false_true h)
-sign_wanted Iff rest h = absurd (false_true h)
-sign_wanted Xor rest h = absurd (false_true h)
-sign_wanted NotAnd rest h = absurd (false_true h)
-sign_wanted NotOr rest h = absurd (false_true h)
-sign_wanted Equal rest h = absurd (false_true h)
-sign_wanted NotEqual rest h = absurd (false_true h)
-sign_wanted All rest h = absurd (false_true h)
-sign_wanted Exists rest h = absurd (false_true h)
-sign_wanted AllTypes rest h = absurd (false_true h)
-sign_wanted Arrow rest h = absurd (false_true h)
-sign_wanted Star rest h = absurd (false_true h)
-sign_wanted At rest h = absurd (false_true h)
-sign_wanted Caret rest h = absurd (false_true h)
-sign_wanted Plus rest h = absurd (false_true h)
-sign_wanted Minus rest h = absurd (false_true h)
+sign_wanted OpenList rest h = absurd (false≢true h)
+sign_wanted Close rest h = absurd (false≢true h)
+sign_wanted CloseList rest h = absurd (false≢true h)
+sign_wanted Comma rest h = absurd (false≢true h)
+sign_wanted Stop rest h = absurd (false≢true h)
+sign_wanted Colon rest h = absurd (false≢true h)
+sign_wanted And rest h = absurd (false≢true h)
+sign_wanted Or rest h = absurd (false≢true h)
+sign_wanted Not rest h = absurd (false≢true h)
+sign_wanted Implies rest h = absurd (false≢true h)
+sign_wanted If rest h = absurd (false≢true h)
+sign_wanted Iff rest h = absurd (false≢true h)
+sign_wanted Xor rest h = absurd (false≢true h)
+sign_wanted NotAnd rest h = absurd (false≢true h)
+sign_wanted NotOr rest h = absurd (false≢true h)
+sign_wanted Equal rest h = absurd (false≢true h)
+sign_wanted NotEqual rest h = absurd (false≢true h)
+sign_wanted All rest h = absurd (false≢true h)
+sign_wanted Exists rest h = absurd (false≢true h)
+sign_wanted AllTypes rest h = absurd (false≢true h)
+sign_wanted Arrow rest h = absurd (false≢true h)
+sign_wanted Star rest h = absurd (false≢true h)
+sign_wanted At rest h = absurd (false≢true h)
+sign_wanted Caret rest h = absurd (false≢true h)
+sign_wanted Plus rest h = absurd (false≢true h)
+sign_wanted Minus rest h = absurd (false≢true h)
 
 pub open_wanted : (token : Token) (rest : List Token) → opens (token ∷ rest) ≡ true → token ≡ sign Open
-open_wanted (lower word) rest h = absurd (false_true h)
-open_wanted (upper word) rest h = absurd (false_true h)
-open_wanted (defined word) rest h = absurd (false_true h)
-open_wanted (quoted word) rest h = absurd (false_true h)
-open_wanted distinct rest h = absurd (false_true h)
-open_wanted (number word) rest h = absurd (false_true h)
+open_wanted (lower word) rest h = absurd (false≢true h)
+open_wanted (upper word) rest h = absurd (false≢true h)
+open_wanted (defined word) rest h = absurd (false≢true h)
+open_wanted (quoted word) rest h = absurd (false≢true h)
+open_wanted distinct rest h = absurd (false≢true h)
+open_wanted (number word) rest h = absurd (false≢true h)
 open_wanted (sign s) rest h = sign_wanted s rest h
 
 abbrev round : List Bracket
@@ -218,40 +211,40 @@ open_missing from s other a = awaits_wanted from s opens (sign Open) refl open_w
 -- the point
 sign_point : (s : Sign) (rest : List Token) → closes [] (sign s ∷ rest) ≡ true → sign s ≡ sign Stop
 sign_point Stop rest h = refl
-sign_point Open rest h = absurd (false_true h)
-sign_point OpenList rest h = absurd (false_true h)
-sign_point Close rest h = absurd (false_true h)
-sign_point CloseList rest h = absurd (false_true h)
-sign_point Comma rest h = absurd (false_true h)
-sign_point Colon rest h = absurd (false_true h)
-sign_point And rest h = absurd (false_true h)
-sign_point Or rest h = absurd (false_true h)
-sign_point Not rest h = absurd (false_true h)
-sign_point Implies rest h = absurd (false_true h)
-sign_point If rest h = absurd (false_true h)
-sign_point Iff rest h = absurd (false_true h)
-sign_point Xor rest h = absurd (false_true h)
-sign_point NotAnd rest h = absurd (false_true h)
-sign_point NotOr rest h = absurd (false_true h)
-sign_point Equal rest h = absurd (false_true h)
-sign_point NotEqual rest h = absurd (false_true h)
-sign_point All rest h = absurd (false_true h)
-sign_point Exists rest h = absurd (false_true h)
-sign_point AllTypes rest h = absurd (false_true h)
-sign_point Arrow rest h = absurd (false_true h)
-sign_point Star rest h = absurd (false_true h)
-sign_point At rest h = absurd (false_true h)
-sign_point Caret rest h = absurd (false_true h)
-sign_point Plus rest h = absurd (false_true h)
-sign_point Minus rest h = absurd (false_true h)
+sign_point Open rest h = absurd (false≢true h)
+sign_point OpenList rest h = absurd (false≢true h)
+sign_point Close rest h = absurd (false≢true h)
+sign_point CloseList rest h = absurd (false≢true h)
+sign_point Comma rest h = absurd (false≢true h)
+sign_point Colon rest h = absurd (false≢true h)
+sign_point And rest h = absurd (false≢true h)
+sign_point Or rest h = absurd (false≢true h)
+sign_point Not rest h = absurd (false≢true h)
+sign_point Implies rest h = absurd (false≢true h)
+sign_point If rest h = absurd (false≢true h)
+sign_point Iff rest h = absurd (false≢true h)
+sign_point Xor rest h = absurd (false≢true h)
+sign_point NotAnd rest h = absurd (false≢true h)
+sign_point NotOr rest h = absurd (false≢true h)
+sign_point Equal rest h = absurd (false≢true h)
+sign_point NotEqual rest h = absurd (false≢true h)
+sign_point All rest h = absurd (false≢true h)
+sign_point Exists rest h = absurd (false≢true h)
+sign_point AllTypes rest h = absurd (false≢true h)
+sign_point Arrow rest h = absurd (false≢true h)
+sign_point Star rest h = absurd (false≢true h)
+sign_point At rest h = absurd (false≢true h)
+sign_point Caret rest h = absurd (false≢true h)
+sign_point Plus rest h = absurd (false≢true h)
+sign_point Minus rest h = absurd (false≢true h)
 
 pub point_wanted : (token : Token) (rest : List Token) → closes [] (token ∷ rest) ≡ true → token ≡ sign Stop
-point_wanted (lower word) rest h = absurd (false_true h)
-point_wanted (upper word) rest h = absurd (false_true h)
-point_wanted (defined word) rest h = absurd (false_true h)
-point_wanted (quoted word) rest h = absurd (false_true h)
-point_wanted distinct rest h = absurd (false_true h)
-point_wanted (number word) rest h = absurd (false_true h)
+point_wanted (lower word) rest h = absurd (false≢true h)
+point_wanted (upper word) rest h = absurd (false≢true h)
+point_wanted (defined word) rest h = absurd (false≢true h)
+point_wanted (quoted word) rest h = absurd (false≢true h)
+point_wanted distinct rest h = absurd (false≢true h)
+point_wanted (number word) rest h = absurd (false≢true h)
 point_wanted (sign s) rest h = sign_point s rest h
 
 pub point_last : (rest : List Token) → closes [] (sign Stop ∷ rest) ≡ nothing rest
@@ -267,28 +260,28 @@ point_missing from s other a = awaits_wanted from s (closes []) (sign Stop) refl
 -- one more token where brackets are open
 pub brackets_awaited : (from : ℕ) (s after : Taken) (opened left : List Bracket) (token : Token) → is_closed opened ≡ false → Takes s after token →
     bracketed opened token ≡ Some left → Awaits from s (closes opened) → Awaits from after (closes left)
-brackets_awaited from s after [] left token waiting takes e a = absurd (false_true (sym waiting))
+brackets_awaited from s after [] left token waiting takes e a = absurd (false≢true (sym waiting))
 brackets_awaited from s after (b ∷ opened) left token waiting takes e a =
     awaits_next from s after (closes (b ∷ opened)) (closes left) token takes refl
     (λ rest. ap is_point (token_behind b opened token rest ∙ ap (λ o. then o (λ bs. behind_closing bs rest)) e)) a
 
 pub brackets_crossed : (from : ℕ) (s after : Taken) (opened : List Bracket) (token : Token) → is_closed opened ≡ false → Takes s after token →
     bracketed opened token ≡ None → Awaits from s (closes opened) → NotWide s.text from
-brackets_crossed from s after [] token waiting takes e a = absurd (false_true (sym waiting))
+brackets_crossed from s after [] token waiting takes e a = absurd (false≢true (sym waiting))
 brackets_crossed from s after (b ∷ opened) token waiting takes e a =
     awaits_other from s after (closes (b ∷ opened)) token takes refl
     (λ rest. ap is_point (token_behind b opened token rest ∙ ap (λ o. then o (λ bs. behind_closing bs rest)) e)) a
 
 pub brackets_missing : (from : ℕ) (s : Taken) (opened : List Bracket) → is_closed opened ≡ false → NoToken s.text s.reached → Awaits from s (closes opened) → NotWide s.text from
-brackets_missing from s [] waiting absent a = absurd (false_true (sym waiting))
+brackets_missing from s [] waiting absent a = absurd (false≢true (sym waiting))
 brackets_missing from s (b ∷ opened) waiting absent a = awaits_none from s (closes (b ∷ opened)) absent refl a
 
 pub brackets_closed : (from : ℕ) (s : Taken) (opened : List Bracket) → is_closed opened ≡ true → Awaits from s (closes opened) → Awaits from s (closes [])
 brackets_closed from s [] closed a = a
-brackets_closed from s (b ∷ opened) closed a = absurd (false_true closed)
+brackets_closed from s (b ∷ opened) closed a = absurd (false≢true closed)
 
 pub ended : (k : TokenKind) (text : List ℕ) (token : Token) → token_of k text ≡ Some token → k ≢ End
-ended k text token e h = none_token token (sym (ap (λ k. token_of k text) h) ∙ e)
+ended k text token e h = none-some token (sym (ap (λ k. token_of k text) h) ∙ e)
 
 -- a token leads further on in the text
 pub takes_further : (s after : Taken) (token : Token) → Takes s after token → (after.text ≡ s.text) × ((s.reached < after.reached) × (after.reached ≤ length s.text))

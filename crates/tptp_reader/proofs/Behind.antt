@@ -1,16 +1,11 @@
 -- What stands behind a sign.
 use Rattle.std.proofs.Common.{◌≡◌, ◌==◌, ◌≤◌, ℕ, suc, true, false, Bool, cond, List, [], ◌∷◌, length, Option, Some, None, refl, sym, ◌∙◌, ap, subst, arith}
 use Rattle.std.proofs.lemmas.Bool.Decides.{nat_tests}
+use Rattle.std.proofs.lemmas.Option.{none-some, same_Some}
 use Rattle.tptp_lex.specs.declared.signs.Sign.{Sign}
 use Rattle.tptp_reader.specs.Tokens.{Token, sign}
 use Rattle.tptp_reader.specs.Parsing.{sign_number, first_sign, behind}
 use Rattle.tptp_reader.proofs.Signs.{same_sign}
-
-pub some_not_none : {A : Type 0} (x : A) → ◌≡◌ {A = Option A} None (Some x) → ⊥
-some_not_none x e = cc
-
-pub same_some : {A : Type 0} (x y : A) → ◌≡◌ {A = Option A} (Some x) (Some y) → x ≡ y
-same_some x y e = cc
 
 number_itself : (n : ℕ) → (n == n) ≡ true
 number_itself n = grind (arith, nat_tests)
@@ -33,15 +28,15 @@ behind_none wanted (sign s ∷ tokens) differs = behind_other wanted s tokens (s
 behind_none wanted (token ∷ tokens) differs = refl
 
 same_front : (wanted s : Sign) (tokens rest : List Token) (b : Bool) → (sign_number s == sign_number wanted) ≡ b → ◌≡◌ {A = Option (List Token)} (cond b (Some tokens) None) (Some rest) → sign s ∷ tokens ≡ sign wanted ∷ rest
-same_front wanted s tokens rest false e h = absurd (some_not_none rest h)
+same_front wanted s tokens rest false e h = absurd (none-some rest h)
 same_front wanted s tokens rest true e h =
-    ap (λ (x : Sign). sign x ∷ tokens) (same_sign s wanted (grind (arith, nat_tests, e))) ∙ ap (λ (ts : List Token). sign wanted ∷ ts) (same_some tokens rest h)
+    ap (λ (x : Sign). sign x ∷ tokens) (same_sign s wanted (grind (arith, nat_tests, e))) ∙ ap (λ (ts : List Token). sign wanted ∷ ts) (same_Some tokens rest h)
 
 -- the tokens that something stands behind begin with the sign
 pub behind_back : (wanted : Sign) (tokens rest : List Token) → behind wanted tokens ≡ Some rest → tokens ≡ sign wanted ∷ rest
-behind_back wanted [] rest e = absurd (some_not_none rest e)
+behind_back wanted [] rest e = absurd (none-some rest e)
 behind_back wanted (sign s ∷ tokens) rest e = same_front wanted s tokens rest (sign_number s == sign_number wanted) refl e
-behind_back wanted (token ∷ tokens) rest e = absurd (some_not_none rest e)
+behind_back wanted (token ∷ tokens) rest e = absurd (none-some rest e)
 
 -- what stands behind a sign is shorter
 pub behind_shorter : (wanted : Sign) (tokens rest : List Token) → behind wanted tokens ≡ Some rest → suc (length rest) ≤ length tokens

@@ -1,8 +1,7 @@
 -- One more level, one more token of a part, and the row of the roles.
 use Rattle.std.proofs.Common.{◌≡◌, ℕ, zero, suc, ◌+◌, ◌-◌, ◌<◌, ◌≤◌, cond, List, [], ◌∷◌, ◌++◌, Some, None, length, take, drop, refl, sym, ◌∙◌, ap, arith, inl, inr, ◌⊎◌}
 use Rattle.std.specs.Prelude.{map, min}
-use Rattle.std.proofs.lemmas.List.{reverse-append, drop-map, take-map, take_rest, drop_all}
-use Rattle.std.proofs.lemmas.Bool.{cases_lt}
+use Rattle.std.proofs.lemmas.List.{reverse-append, drop-map, take-map, take_rest, drop_all, drop_min}
 use Rattle.std.proofs.Math.Seq.{drop-length}
 use Rattle.tptp_reader.specs.declared.lexeme.Lexeme.{Lexeme}
 use Rattle.tptp_reader.specs.Parsing.{seen}
@@ -111,16 +110,12 @@ within_case start xs (inl lt) = ap (λ n. drop n xs) (let e : min start (length 
 within_case start xs (inr le) =
     ap (λ n. drop n xs) (let e : min start (length xs) ≡ length xs = omega arith in e) ∙ drop-length xs ∙ sym (drop_all start xs le)
 
--- the start of a part or the end of the tokens, what comes first
-pub from_within : (start : ℕ) (xs : List Lexeme) → drop (min start (length xs)) xs ≡ drop start xs
-from_within start xs = within_case start xs (cases_lt start (length xs))
-
 -- a part ends behind its start
 pub part_length : (start n : ℕ) → (start + n) - start ≡ n
 part_length start n = omega arith
 
 pub front_from : (n start : ℕ) (xs : List Lexeme) → n ≡ min start (length xs) → map seen (take (length xs - n) (drop n xs)) ≡ drop start (map seen xs)
-front_from n start xs e = ap (map seen) (take_rest xs n ∙ ap (λ (k : ℕ). drop k xs) e ∙ from_within start xs) ∙ seen_from start xs
+front_from n start xs e = ap (map seen) (take_rest xs n ∙ ap (λ (k : ℕ). drop k xs) e ∙ drop_min start xs) ∙ seen_from start xs
 
 counted_part : (start : ℕ) (tokens : List Token) → take (to_comma 0 (drop start tokens)) (drop start tokens) ≡ take (part_end tokens start - start) (drop start tokens)
 counted_part start tokens = ap (λ (n : ℕ). take n (drop start tokens)) (sym (part_length start (to_comma 0 (drop start tokens))))

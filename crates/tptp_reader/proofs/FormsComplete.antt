@@ -2,6 +2,8 @@
 use Rattle.std.proofs.Common.{◌≡◌, ◌&&◌, ℕ, zero, suc, ◌+◌, ◌<◌, ◌≤◌, Bool, true, false, List, [], ◌∷◌, length, Option, Some, None, refl, sym, ◌∙◌, ap, subst, arith}
 use Rattle.std.specs.Prelude.{nat_lt}
 use Rattle.std.proofs.lemmas.Bool.Decides.{nat_tests}
+use Rattle.std.proofs.lemmas.Bool.{false≢true, and_parts}
+use Rattle.std.proofs.lemmas.Option.{none-some, same_Some}
 use Rattle.tptp_lex.specs.declared.signs.Sign.{Sign}
 use Rattle.tptp_lex.specs.declared.signs.Sign.TheVariants.{Open, Close, OpenList, CloseList, Colon, And, Or, Not, Implies, If, Iff, Xor, NotAnd, NotOr, Equal, NotEqual, All, Exists}
 use Rattle.tptp_reader.specs.declared.lexeme.Defined.TheVariants.{True, False}
@@ -21,7 +23,7 @@ use Rattle.tptp_reader.specs.SlowTerms.{term_in}
 use Rattle.tptp_reader.specs.SlowTypes.{variables_in}
 use Rattle.tptp_reader.specs.SlowForms.{bound_all, joins, head_of, follow_of, binder_sign, binder_quantifier, chain_in, chain_from, truth_in, right_in, compared_in, atom_by, atom_in, prefix_in, completed_by, completed_in, formula_by, unit_by, unit_in, formula_in}
 use Rattle.tptp_reader.specs.Kept.{forms}
-use Rattle.tptp_reader.proofs.Behind.{some_not_none, same_some, behind_sign}
+use Rattle.tptp_reader.proofs.Behind.{behind_sign}
 use Rattle.tptp_reader.proofs.Chains.{chain_done}
 use Rattle.tptp_reader.proofs.Shorter.{units_shrink}
 use Rattle.tptp_reader.proofs.FormsSound.{joins_is, bound_is}
@@ -30,14 +32,6 @@ use Rattle.tptp_reader.proofs.VariableLaws.{variables_read, variables_pass, vari
 
 abbrev state : ℕ → ℕ → List (ℕ × ℕ) → Nesting
 state count base outer = record { count = count; base = base; outer = outer }
-
-left_true : (a b : Bool) → (a && b) ≡ true → a ≡ true
-left_true true b e = refl
-left_true false b e = e
-
-right_true : (a b : Bool) → (a && b) ≡ true → b ≡ true
-right_true true b e = e
-right_true false b e = absurd cc
 
 below_limit : (count : ℕ) → nat_lt count 200 ≡ true → count < 200
 below_limit count e = grind (arith, nat_tests, e)
@@ -64,71 +58,68 @@ ends_formula (Some NotAnd) = false
 ends_formula (Some NotOr) = false
 ends_formula s = true
 
-true_not_false : ◌≡◌ {A = Bool} false true → ⊥
-true_not_false e = cc
-
 unit_ends : (s : Option Sign) → ends_formula s ≡ true → ends_unit s ≡ true
-unit_ends (Some Open) e = absurd (true_not_false e)
-unit_ends (Some Equal) e = absurd (true_not_false e)
-unit_ends (Some NotEqual) e = absurd (true_not_false e)
+unit_ends (Some Open) e = absurd (false≢true e)
+unit_ends (Some Equal) e = absurd (false≢true e)
+unit_ends (Some NotEqual) e = absurd (false≢true e)
 unit_ends s e = refl
 
 nothing_follows : (s : Option Sign) → ends_formula s ≡ true → follow_of s ≡ follows.Nothing
-nothing_follows (Some And) e = absurd (true_not_false e)
-nothing_follows (Some Or) e = absurd (true_not_false e)
-nothing_follows (Some Implies) e = absurd (true_not_false e)
-nothing_follows (Some If) e = absurd (true_not_false e)
-nothing_follows (Some Iff) e = absurd (true_not_false e)
-nothing_follows (Some Xor) e = absurd (true_not_false e)
-nothing_follows (Some NotAnd) e = absurd (true_not_false e)
-nothing_follows (Some NotOr) e = absurd (true_not_false e)
+nothing_follows (Some And) e = absurd (false≢true e)
+nothing_follows (Some Or) e = absurd (false≢true e)
+nothing_follows (Some Implies) e = absurd (false≢true e)
+nothing_follows (Some If) e = absurd (false≢true e)
+nothing_follows (Some Iff) e = absurd (false≢true e)
+nothing_follows (Some Xor) e = absurd (false≢true e)
+nothing_follows (Some NotAnd) e = absurd (false≢true e)
+nothing_follows (Some NotOr) e = absurd (false≢true e)
 nothing_follows s e = refl
 
 no_open : (tokens : List Token) → ends_unit (first_sign tokens) ≡ true → behind Open tokens ≡ None
-no_open (sign Open ∷ tokens) e = absurd (true_not_false e)
+no_open (sign Open ∷ tokens) e = absurd (false≢true e)
 no_open (sign s ∷ tokens) e = refl
 no_open tokens e = refl
 
 no_equal : (tokens : List Token) → ends_unit (first_sign tokens) ≡ true → behind Equal tokens ≡ None
-no_equal (sign Equal ∷ tokens) e = absurd (true_not_false e)
+no_equal (sign Equal ∷ tokens) e = absurd (false≢true e)
 no_equal (sign s ∷ tokens) e = refl
 no_equal tokens e = refl
 
 no_unequal : (tokens : List Token) → ends_unit (first_sign tokens) ≡ true → behind NotEqual tokens ≡ None
-no_unequal (sign NotEqual ∷ tokens) e = absurd (true_not_false e)
+no_unequal (sign NotEqual ∷ tokens) e = absurd (false≢true e)
 no_unequal (sign s ∷ tokens) e = refl
 no_unequal tokens e = refl
 
 no_and : (tokens : List Token) → ends_formula (first_sign tokens) ≡ true → behind And tokens ≡ None
-no_and (sign And ∷ tokens) e = absurd (true_not_false e)
+no_and (sign And ∷ tokens) e = absurd (false≢true e)
 no_and (sign s ∷ tokens) e = refl
 no_and tokens e = refl
 
 no_or : (tokens : List Token) → ends_formula (first_sign tokens) ≡ true → behind Or tokens ≡ None
-no_or (sign Or ∷ tokens) e = absurd (true_not_false e)
+no_or (sign Or ∷ tokens) e = absurd (false≢true e)
 no_or (sign s ∷ tokens) e = refl
 no_or tokens e = refl
 
 no_chain : (s : Sign) (c : Connective) → chain_of s ≡ Some c → (tokens : List Token) → ends_formula (first_sign tokens) ≡ true → behind s tokens ≡ None
 no_chain And c e tokens h = no_and tokens h
 no_chain Or c e tokens h = no_or tokens h
-no_chain s c e tokens h = absurd (some_not_none c e)
+no_chain s c e tokens h = absurd (none-some c e)
 
 -- a connective that joins just two
 chain_unit : (s : Sign) (c : Connective) → chain_of s ≡ Some c → ends_unit (Some s) ≡ true
 chain_unit And c e = refl
 chain_unit Or c e = refl
-chain_unit s c e = absurd (some_not_none c e)
+chain_unit s c e = absurd (none-some c e)
 
 chain_settles : (s : Sign) (c : Connective) → chain_of s ≡ Some c → (count base : ℕ) (outer : List (ℕ × ℕ)) (tokens : List Token) → within (state count base outer) (sign s ∷ tokens) ≡ true → within (state base base outer) tokens ≡ true
 chain_settles And c e count base outer tokens h = h
 chain_settles Or c e count base outer tokens h = h
-chain_settles s c e count base outer tokens h = absurd (some_not_none c e)
+chain_settles s c e count base outer tokens h = absurd (none-some c e)
 
 chain_completed : (s : Sign) (c : Connective) → chain_of s ≡ Some c → (unit : List Token → Option (RawForm × List Token)) (f : RawForm) (tokens : List Token) → completed_in forms unit f (sign s ∷ tokens) ≡ chain_from (RawForm.binary c) s unit f (sign s ∷ tokens)
-chain_completed And c e unit f tokens = ap (λ (d : Connective). chain_from (RawForm.binary d) And unit f (sign And ∷ tokens)) (same_some Connective.conjunction c e)
-chain_completed Or c e unit f tokens = ap (λ (d : Connective). chain_from (RawForm.binary d) Or unit f (sign Or ∷ tokens)) (same_some Connective.disjunction c e)
-chain_completed s c e unit f tokens = absurd (some_not_none c e)
+chain_completed And c e unit f tokens = ap (λ (d : Connective). chain_from (RawForm.binary d) And unit f (sign And ∷ tokens)) (same_Some Connective.conjunction c e)
+chain_completed Or c e unit f tokens = ap (λ (d : Connective). chain_from (RawForm.binary d) Or unit f (sign Or ∷ tokens)) (same_Some Connective.disjunction c e)
+chain_completed s c e unit f tokens = absurd (none-some c e)
 
 two_unit : (s : Sign) (f g h : RawForm) → joined_by s f g ≡ Some h → ends_unit (Some s) ≡ true
 two_unit Implies f g h e = refl
@@ -137,7 +128,7 @@ two_unit Iff f g h e = refl
 two_unit Xor f g h e = refl
 two_unit NotAnd f g h e = refl
 two_unit NotOr f g h e = refl
-two_unit s f g h e = absurd (some_not_none h e)
+two_unit s f g h e = absurd (none-some h e)
 
 two_settles : (s : Sign) (f g h : RawForm) → joined_by s f g ≡ Some h → (count base : ℕ) (outer : List (ℕ × ℕ)) (tokens : List Token) → within (state count base outer) (sign s ∷ tokens) ≡ true → within (state base base outer) tokens ≡ true
 two_settles Implies f g h e count base outer tokens w = w
@@ -146,7 +137,7 @@ two_settles Iff f g h e count base outer tokens w = w
 two_settles Xor f g h e count base outer tokens w = w
 two_settles NotAnd f g h e count base outer tokens w = w
 two_settles NotOr f g h e count base outer tokens w = w
-two_settles s f g h e count base outer tokens w = absurd (some_not_none h e)
+two_settles s f g h e count base outer tokens w = absurd (none-some h e)
 
 two_follows : (s : Sign) (f g h : RawForm) → joined_by s f g ≡ Some h → follow_of (Some s) ≡ follows.Two s
 two_follows Implies f g h e = refl
@@ -155,26 +146,26 @@ two_follows Iff f g h e = refl
 two_follows Xor f g h e = refl
 two_follows NotAnd f g h e = refl
 two_follows NotOr f g h e = refl
-two_follows s f g h e = absurd (some_not_none h e)
+two_follows s f g h e = absurd (none-some h e)
 
 two_nested : (s : Sign) (f g h : RawForm) → joined_by s f g ≡ Some h → IsNested f → IsNested g → IsNested h
-two_nested Implies f g h e m n = subst IsNested (same_some (RawForm.binary Connective.implication f g) h e) (m, n)
-two_nested If f g h e m n = subst IsNested (same_some (RawForm.binary Connective.implication g f) h e) (n, m)
-two_nested Iff f g h e m n = subst IsNested (same_some (RawForm.binary Connective.equivalence f g) h e) (m, n)
-two_nested Xor f g h e m n = subst IsNested (same_some (RawForm.negation (RawForm.binary Connective.equivalence f g)) h e) (m, n)
-two_nested NotAnd f g h e m n = subst IsNested (same_some (RawForm.negation (RawForm.binary Connective.conjunction f g)) h e) (m, n)
-two_nested NotOr f g h e m n = subst IsNested (same_some (RawForm.negation (RawForm.binary Connective.disjunction f g)) h e) (m, n)
-two_nested s f g h e m n = absurd (some_not_none h e)
+two_nested Implies f g h e m n = subst IsNested (same_Some (RawForm.binary Connective.implication f g) h e) (m, n)
+two_nested If f g h e m n = subst IsNested (same_Some (RawForm.binary Connective.implication g f) h e) (n, m)
+two_nested Iff f g h e m n = subst IsNested (same_Some (RawForm.binary Connective.equivalence f g) h e) (m, n)
+two_nested Xor f g h e m n = subst IsNested (same_Some (RawForm.negation (RawForm.binary Connective.equivalence f g)) h e) (m, n)
+two_nested NotAnd f g h e m n = subst IsNested (same_Some (RawForm.negation (RawForm.binary Connective.conjunction f g)) h e) (m, n)
+two_nested NotOr f g h e m n = subst IsNested (same_Some (RawForm.negation (RawForm.binary Connective.disjunction f g)) h e) (m, n)
+two_nested s f g h e m n = absurd (none-some h e)
 
 -- a term begins with no sign, and is neither $true nor $false
 word_front : (t : Token) (f : Name) → word_of t ≡ Some f → (tokens : List Token) → (first_sign (t ∷ tokens) ≡ None) × (truth_in (t ∷ tokens) ≡ None)
 word_front (lower text) f e tokens = (refl, refl)
 word_front (quoted text) f e tokens = (refl, refl)
-word_front (upper text) f e tokens = absurd (some_not_none f e)
-word_front (defined word) f e tokens = absurd (some_not_none f e)
-word_front distinct f e tokens = absurd (some_not_none f e)
-word_front (number text) f e tokens = absurd (some_not_none f e)
-word_front (sign x) f e tokens = absurd (some_not_none f e)
+word_front (upper text) f e tokens = absurd (none-some f e)
+word_front (defined word) f e tokens = absurd (none-some f e)
+word_front distinct f e tokens = absurd (none-some f e)
+word_front (number text) f e tokens = absurd (none-some f e)
+word_front (sign x) f e tokens = absurd (none-some f e)
 
 term_front : (typed : Bool) (tokens rest : List Token) (u : RawTerm) → IsTerm typed tokens rest u → (first_sign tokens ≡ None) × (truth_in tokens ≡ None)
 term_front typed tokens rest u term_variable = (refl, refl)
@@ -231,9 +222,9 @@ record Bound (s : Sign) (q : Quantifier) : Type 0 where
   quantifier_is : binder_quantifier binder ≡ q
 
 bound_by : (s : Sign) (q : Quantifier) → quantifier_of s ≡ Some q → Bound s q
-bound_by All q e = record { binder = binders.All; sign_is = refl; quantifier_is = same_some Quantifier.universal q e }
-bound_by Exists q e = record { binder = binders.Ex; sign_is = refl; quantifier_is = same_some Quantifier.existential q e }
-bound_by s q e = absurd (some_not_none q e)
+bound_by All q e = record { binder = binders.All; sign_is = refl; quantifier_is = same_Some Quantifier.universal q e }
+bound_by Exists q e = record { binder = binders.Ex; sign_is = refl; quantifier_is = same_Some Quantifier.existential q e }
+bound_by s q e = absurd (none-some q e)
 
 -- the scan at the head of a quantifier
 record Heads (count base : ℕ) (outer : List (ℕ × ℕ)) (tokens : List Token) : Type 0 where
@@ -242,10 +233,10 @@ record Heads (count base : ℕ) (outer : List (ℕ × ℕ)) (tokens : List Token
 
 heads_in : (count base : ℕ) (outer : List (ℕ × ℕ)) (tokens : List Token) → (nat_lt count 200 && (nat_lt (suc count) 200 && within (state (suc (suc count)) (suc (suc count)) ((suc count, base) ∷ outer)) tokens)) ≡ true → Heads count base outer tokens
 heads_in count base outer tokens h =
-    let second = right_true (nat_lt count 200) (nat_lt (suc count) 200 && within (state (suc (suc count)) (suc (suc count)) ((suc count, base) ∷ outer)) tokens) h in
+    let second = (and_parts (nat_lt count 200) (nat_lt (suc count) 200 && within (state (suc (suc count)) (suc (suc count)) ((suc count, base) ∷ outer)) tokens) h).1 in
     record {
-      room = below_limit (suc count) (left_true (nat_lt (suc count) 200) (within (state (suc (suc count)) (suc (suc count)) ((suc count, base) ∷ outer)) tokens) second);
-      inside = right_true (nat_lt (suc count) 200) (within (state (suc (suc count)) (suc (suc count)) ((suc count, base) ∷ outer)) tokens) second;
+      room = below_limit (suc count) ((and_parts (nat_lt (suc count) 200) (within (state (suc (suc count)) (suc (suc count)) ((suc count, base) ∷ outer)) tokens) second).0);
+      inside = (and_parts (nat_lt (suc count) 200) (within (state (suc (suc count)) (suc (suc count)) ((suc count, base) ∷ outer)) tokens) second).1;
     }
 
 heads_by : (b : Binder) (count base : ℕ) (outer : List (ℕ × ℕ)) (tokens : List Token) → within (state count base outer) (sign (binder_sign b) ∷ sign OpenList ∷ tokens) ≡ true → Heads count base outer tokens
@@ -341,20 +332,20 @@ quantifier_read typed (suc room) count base outer tokens middle rest s q b vs f 
 mutual
   unit_read : (typed : Bool) (room count base : ℕ) (outer : List (ℕ × ℕ)) (tokens rest : List Token) (f : RawForm) → IsUnit typed tokens rest f → within (state count base outer) tokens ≡ true → 200 ≤ room + count → count ≤ 200 → ends_unit (first_sign rest) ≡ true → Read (unit_in forms typed room) count base outer tokens rest f
   unit_read typed zero count base outer _ rest _ (negated {tokens = tokens} {f = f} d) w le small ends =
-      let lt = below_limit count (left_true (nat_lt count 200) (within (state (suc count) base outer) tokens) w) in absurd (omega arith)
+      let lt = below_limit count ((and_parts (nat_lt count 200) (within (state (suc count) base outer) tokens) w).0) in absurd (omega arith)
   unit_read typed (suc room) count base outer _ rest _ (negated {tokens = tokens} {f = f} d) w le small ends =
-      let lt = below_limit count (left_true (nat_lt count 200) (within (state (suc count) base outer) tokens) w) in
-      let ih = unit_read typed room (suc count) base outer tokens rest f d (right_true (nat_lt count 200) (within (state (suc count) base outer) tokens) w) (omega arith) (omega arith) ends in
+      let lt = below_limit count ((and_parts (nat_lt count 200) (within (state (suc count) base outer) tokens) w).0) in
+      let ih = unit_read typed room (suc count) base outer tokens rest f d ((and_parts (nat_lt count 200) (within (state (suc count) base outer) tokens) w).1) (omega arith) (omega arith) ends in
       record { reads = negation_read typed room tokens rest f ih.reads; after = ih.after; no_less = (let h = ih.no_less in omega arith); goes = ih.goes; nested = ih.nested }
   unit_read typed room count base outer _ rest _ (quantified {s = s} {q = q} {tokens = tokens} {middle = middle} {vs = vs} {f = f} e v d is) w le small ends =
       let b = bound_by s q e in
       let h = heads_by b.binder count base outer tokens (subst (λ (t : Sign). within (state count base outer) (sign t ∷ sign OpenList ∷ tokens) ≡ true) b.sign_is w) in
       quantifier_read typed room count base outer tokens middle rest s q b vs f _ h v (λ r inside more few. unit_read typed r (suc count) base outer middle rest f d inside more few ends) is le
   unit_read typed zero count base outer _ rest f (bracketed {tokens = tokens} d) w le small ends =
-      let lt = below_limit count (left_true (nat_lt count 200) (within (state (suc count) (suc count) ((count, base) ∷ outer)) tokens) w) in absurd (omega arith)
+      let lt = below_limit count ((and_parts (nat_lt count 200) (within (state (suc count) (suc count) ((count, base) ∷ outer)) tokens) w).0) in absurd (omega arith)
   unit_read typed (suc room) count base outer _ rest f (bracketed {tokens = tokens} d) w le small ends =
-      let lt = below_limit count (left_true (nat_lt count 200) (within (state (suc count) (suc count) ((count, base) ∷ outer)) tokens) w) in
-      let ih = formula_read typed room (suc count) ((count, base) ∷ outer) tokens (sign Close ∷ rest) f d (right_true (nat_lt count 200) (within (state (suc count) (suc count) ((count, base) ∷ outer)) tokens) w) (omega arith) (omega arith) refl in
+      let lt = below_limit count ((and_parts (nat_lt count 200) (within (state (suc count) (suc count) ((count, base) ∷ outer)) tokens) w).0) in
+      let ih = formula_read typed room (suc count) ((count, base) ∷ outer) tokens (sign Close ∷ rest) f d ((and_parts (nat_lt count 200) (within (state (suc count) (suc count) ((count, base) ∷ outer)) tokens) w).1) (omega arith) (omega arith) refl in
       record { reads = bracketed_read typed room tokens rest f ih.reads; after = count; no_less = omega arith; goes = ih.goes; nested = ih.nested }
   unit_read typed room count base outer _ rest _ truth w le small ends =
       record { reads = as_atom typed room (defined True ∷ rest) refl ∙ true_read typed room rest; after = count; no_less = omega arith; goes = w; nested = tt }

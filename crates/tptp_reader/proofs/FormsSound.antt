@@ -1,5 +1,6 @@
 -- What the slow reader of formulas reads is in the grammar.
 use Rattle.std.proofs.Common.{◌≡◌, ℕ, zero, suc, ◌⊎◌, inl, inr, Bool, List, [], ◌∷◌, length, Option, Some, None, refl, sym, ◌∙◌, ap, subst}
+use Rattle.std.proofs.lemmas.Option.{some_pair_parts}
 use Rattle.tptp_lex.specs.declared.signs.Sign.{Sign}
 use Rattle.tptp_lex.specs.declared.signs.Sign.TheVariants.{Open, Close, OpenList, CloseList, Colon, And, Or, Not, Implies, If, Iff, Xor, NotAnd, NotOr, Equal, NotEqual}
 use Rattle.tptp_reader.specs.declared.lexeme.Defined.TheVariants.{True, False}
@@ -19,7 +20,7 @@ use Rattle.tptp_reader.specs.SlowTypes.{variables_in}
 use Rattle.tptp_reader.specs.SlowForms.{bound_all, joins, head_of, follow_of, binder_sign, binder_quantifier, chain_in, right_in, compared_in, atom_in, prefix_in, joined_in, completed_by, completed_in, formula_by, unit_by, unit_in, formula_in}
 use Rattle.tptp_reader.specs.Kept.{forms}
 use Rattle.tptp_reader.proofs.Behind.{behind_back}
-use Rattle.tptp_reader.proofs.ReadLaws.{same_read, same_value, then_back}
+use Rattle.tptp_reader.proofs.ReadLaws.{same_read, then_back}
 use Rattle.tptp_reader.proofs.TermLaws.{term_sound}
 use Rattle.tptp_reader.proofs.VariableLaws.{variables_sound}
 
@@ -99,7 +100,7 @@ record Right (typed : Bool) (room : ℕ) (make : RawTerm → RawForm) (tokens : 
 right_sound : (typed : Bool) (room : ℕ) (make : RawTerm → RawForm) (tokens : List Token) (g : RawForm) (rest : List Token) → right_in make typed room tokens ≡ Some (g, rest) → Right typed room make tokens g rest
 right_sound typed room make tokens g rest e =
     let b = then_back (term_in typed room tokens) (λ x. Some (make x.0, x.1)) (g, rest) e in
-    let same = same_value (make b.middle.0) g b.middle.1 rest b.second in
+    let same = some_pair_parts (make b.middle.0) g b.middle.1 rest b.second in
     record {
       term = b.middle.0;
       is = term_sound typed room tokens b.middle.0 rest (b.first ∙ ap (λ (ts : List Token). Some (b.middle.0, ts)) same.1);
@@ -149,7 +150,7 @@ prefix_sound typed room s tokens vs rest e =
     let c = then_back (variables_in typed room b.middle) (λ x. then (behind CloseList x.1) (λ closing. then (behind Colon closing) (λ rest. Some (x.0, rest)))) (vs, rest) b.second in
     let d = then_back (behind CloseList c.middle.1) (λ closing. then (behind Colon closing) (λ rest. Some (c.middle.0, rest))) (vs, rest) c.second in
     let k = then_back (behind Colon d.middle) (λ rest. Some (c.middle.0, rest)) (vs, rest) d.second in
-    let same = same_value c.middle.0 vs k.middle rest k.second in
+    let same = some_pair_parts c.middle.0 vs k.middle rest k.second in
     let after = behind_back CloseList c.middle.1 d.middle d.first ∙ ap (λ (ts : List Token). sign CloseList ∷ ts) (behind_back Colon d.middle k.middle k.first ∙ ap (λ (ts : List Token). sign Colon ∷ ts) same.1) in
     record {
       inside = b.middle;

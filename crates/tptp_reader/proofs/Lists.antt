@@ -1,10 +1,11 @@
 -- A list of items with a sign between, as it is read.
 use Rattle.std.proofs.Common.{◌≡◌, ◌≤◌, ℕ, zero, suc, List, [], ◌∷◌, ◌++◌, length, Option, Some, None, refl, sym, ◌∙◌, ap, subst, arith, append_assoc}
+use Rattle.std.proofs.lemmas.Option.{none-some, same_Some}
 use Rattle.tptp_lex.specs.declared.signs.Sign.{Sign}
 use Rattle.tptp_reader.specs.Tokens.{Token, sign}
 use Rattle.tptp_reader.specs.Parsing.{first_sign, behind, then}
 use Rattle.tptp_reader.specs.SlowLists.{goes_on, followed, followed_all, separated}
-use Rattle.tptp_reader.proofs.Behind.{some_not_none, same_some, behind_sign, behind_none, behind_back, behind_shorter}
+use Rattle.tptp_reader.proofs.Behind.{behind_sign, behind_none, behind_back, behind_shorter}
 
 -- an item leaves no more tokens than there were
 pub record Shrinks {A : Type 0} (item : List Token → Option (A × List Token)) : Type 0 where
@@ -96,10 +97,10 @@ record Found {A : Type 0} (item : List Token → Option (A × List Token)) (betw
   chain : Chain item between tokens rest xs
 
 pair_left : {A : Type 0} (xs ys : List A) (tokens rest : List Token) → ◌≡◌ {A = Option (List A × List Token)} (Some (xs, tokens)) (Some (ys, rest)) → xs ≡ ys
-pair_left {A} xs ys tokens rest e = ap (λ (p : List A × List Token). p.0) (same_some (xs, tokens) (ys, rest) e)
+pair_left {A} xs ys tokens rest e = ap (λ (p : List A × List Token). p.0) (same_Some (xs, tokens) (ys, rest) e)
 
 pair_right : {A : Type 0} (xs ys : List A) (tokens rest : List Token) → ◌≡◌ {A = Option (List A × List Token)} (Some (xs, tokens)) (Some (ys, rest)) → tokens ≡ rest
-pair_right {A} xs ys tokens rest e = ap (λ (p : List A × List Token). p.1) (same_some (xs, tokens) (ys, rest) e)
+pair_right {A} xs ys tokens rest e = ap (λ (p : List A × List Token). p.1) (same_Some (xs, tokens) (ys, rest) e)
 
 found_last : {A : Type 0} (item : List Token → Option (A × List Token)) (between : Sign) (zs : List A) (t0 tokens : List Token) (x : A) (ys : List A) (rest : List Token) → item t0 ≡ Some (x, tokens) → ◌≡◌ {A = Option (List A × List Token)} (Some (zs ++ x ∷ [], tokens)) (Some (ys, rest)) → Found item between t0 rest zs ys
 found_last item between zs t0 tokens x ys rest e h = record {
@@ -114,7 +115,7 @@ Finds {A} item between n ys rest = (zs : List A) (t0 tokens : List Token) (x : A
 
 found_item : {A : Type 0} (item : List Token → Option (A × List Token)) (between : Sign) (n : ℕ) (ys : List A) (rest : List Token) → Finds item between n ys rest → (zs : List A) (t0 tokens : List Token) (x : A) → item t0 ≡ Some (x, tokens) →
     (middle : List Token) → behind between tokens ≡ Some middle → (q : Option (A × List Token)) → item middle ≡ q → then q (λ y. followed item between n ((zs ++ x ∷ []) ++ y.0 ∷ []) y.1) ≡ Some (ys, rest) → Found item between t0 rest zs ys
-found_item item between n ys rest ih zs t0 tokens x e middle b None i h = absurd (some_not_none _ h)
+found_item item between n ys rest ih zs t0 tokens x e middle b None i h = absurd (none-some _ h)
 found_item item between n ys rest ih zs t0 tokens x e middle b (Some y) i h =
     let later = ih (zs ++ x ∷ []) middle y.1 y.0 i h in
     record {
@@ -133,7 +134,7 @@ found_from item between zero ys rest zs t0 tokens x e h = found_last item betwee
 found_from item between (suc n) ys rest zs t0 tokens x e h = found_behind item between n ys rest (found_from item between n ys rest) zs t0 tokens x e (behind between tokens) refl h
 
 found_first : {A : Type 0} (item : List Token → Option (A × List Token)) (between : Sign) (tokens : List Token) (ys : List A) (rest : List Token) (q : Option (A × List Token)) → item tokens ≡ q → then q (λ x. followed_all item between (x.0 ∷ []) x.1) ≡ Some (ys, rest) → Found item between tokens rest [] ys
-found_first item between tokens ys rest None e h = absurd (some_not_none _ h)
+found_first item between tokens ys rest None e h = absurd (none-some _ h)
 found_first item between tokens ys rest (Some x) e h = found_from item between (length x.1) ys rest [] tokens x.1 x.0 e h
 
 -- a list that was read is a chain

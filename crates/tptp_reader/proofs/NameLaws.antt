@@ -1,5 +1,6 @@
 -- Names, as they are read.
 use Rattle.std.proofs.Common.{◌≡◌, List, [], ◌∷◌, Option, Some, refl, sym, ◌∙◌, ap, subst}
+use Rattle.std.proofs.lemmas.Option.{some_pair_parts, none-some}
 use Rattle.tptp_lex.specs.declared.signs.Sign.TheVariants.{OpenList, CloseList, Comma}
 use Rattle.tptp_reader.specs.Raw.{Name}
 use Rattle.tptp_reader.specs.Tokens.{Token, lower, quoted, sign}
@@ -9,15 +10,15 @@ use Rattle.tptp_reader.specs.SlowLists.{separated}
 use Rattle.tptp_reader.specs.SlowStatements.{lower_in, quoted_in, names_in, with_comma}
 use Rattle.tptp_reader.specs.SlowWords.{name_in}
 use Rattle.tptp_reader.proofs.WordLaws.{name_sound, name_read, name_shrinks}
-use Rattle.tptp_reader.proofs.Behind.{some_not_none, behind_back}
-use Rattle.tptp_reader.proofs.ReadLaws.{same_value, then_back}
+use Rattle.tptp_reader.proofs.Behind.{behind_back}
+use Rattle.tptp_reader.proofs.ReadLaws.{then_back}
 use Rattle.tptp_reader.proofs.Lists.{Chain, last, more, chain_read, read_chain}
 
 -- the lower that comes first
 pub lower_back : (tokens : List Token) (text : Name) (rest : List Token) → lower_in tokens ≡ Some (text, rest) → tokens ≡ lower text ∷ rest
 unfolding lower_in
-lower_back (lower word ∷ after) text rest e = let same = same_value word text after rest e in ap (λ (w : Name). lower w ∷ after) same.0 ∙ ap (λ (ts : List Token). lower text ∷ ts) same.1
-lower_back tokens text rest e = absurd (some_not_none (text, rest) e)
+lower_back (lower word ∷ after) text rest e = let same = some_pair_parts word text after rest e in ap (λ (w : Name). lower w ∷ after) same.0 ∙ ap (λ (ts : List Token). lower text ∷ ts) same.1
+lower_back tokens text rest e = absurd (none-some (text, rest) e)
 
 pub lower_goes : (text : Name) (rest : List Token) → lower_in (lower text ∷ rest) ≡ Some (text, rest)
 unfolding lower_in
@@ -25,8 +26,8 @@ lower_goes text rest = refl
 
 pub quoted_back : (tokens : List Token) (text : Name) (rest : List Token) → quoted_in tokens ≡ Some (text, rest) → tokens ≡ quoted text ∷ rest
 unfolding quoted_in
-quoted_back (quoted word ∷ after) text rest e = let same = same_value word text after rest e in ap (λ (w : Name). quoted w ∷ after) same.0 ∙ ap (λ (ts : List Token). quoted text ∷ ts) same.1
-quoted_back tokens text rest e = absurd (some_not_none (text, rest) e)
+quoted_back (quoted word ∷ after) text rest e = let same = some_pair_parts word text after rest e in ap (λ (w : Name). quoted w ∷ after) same.0 ∙ ap (λ (ts : List Token). quoted text ∷ ts) same.1
+quoted_back tokens text rest e = absurd (none-some (text, rest) e)
 
 pub quoted_goes : (text : Name) (rest : List Token) → quoted_in (quoted text ∷ rest) ≡ Some (text, rest)
 unfolding quoted_in
@@ -37,7 +38,7 @@ pub comma_back : (read : Option (Name × List Token)) (name : Name) (rest : List
 comma_back read name rest e =
     let a = then_back read (λ x. then (behind Comma x.1) (λ more. Some (x.0, more))) (name, rest) e in
     let b = then_back (behind Comma a.middle.1) (λ more. Some (a.middle.0, more)) (name, rest) a.second in
-    let same = same_value a.middle.0 name b.middle rest b.second in
+    let same = some_pair_parts a.middle.0 name b.middle rest b.second in
     a.first ∙ ap (λ (n : Name). Some (n, a.middle.1)) same.0 ∙ ap (λ (ts : List Token). Some (name, ts)) (behind_back Comma a.middle.1 b.middle b.first ∙ ap (λ (ts : List Token). sign Comma ∷ ts) same.1)
 
 pub comma_goes : (read : Option (Name × List Token)) (name : Name) (rest : List Token) → read ≡ Some (name, sign Comma ∷ rest) → with_comma read ≡ Some (name, rest)
@@ -68,7 +69,7 @@ names_back tokens names rest e =
     let a = then_back (behind OpenList tokens) (λ first. then (separated name_in Comma first) (λ x. then (behind CloseList x.1) (λ more. Some (x.0, more)))) (names, rest) e in
     let b = then_back (separated name_in Comma a.middle) (λ x. then (behind CloseList x.1) (λ more. Some (x.0, more))) (names, rest) a.second in
     let c = then_back (behind CloseList b.middle.1) (λ more. Some (b.middle.0, more)) (names, rest) b.second in
-    let same = same_value b.middle.0 names c.middle rest c.second in
+    let same = some_pair_parts b.middle.0 names c.middle rest c.second in
     let after = behind_back CloseList b.middle.1 c.middle c.first ∙ ap (λ (ts : List Token). sign CloseList ∷ ts) same.1 in
     record {
       inside = a.middle;

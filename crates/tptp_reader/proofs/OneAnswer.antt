@@ -1,6 +1,8 @@
 -- What stands at a place of a text has one answer.
-use Rattle.std.proofs.Common.{◌≡◌, ℕ, ◌<◌, ◌≤◌, Bool, true, false, List, [], ◌∷◌, length, Option, Some, None, refl, sym, ◌∙◌, ap, subst, arith}
+use Rattle.std.proofs.Common.{◌≡◌, ℕ, ◌<◌, ◌≤◌, true, List, [], ◌∷◌, length, Option, Some, None, refl, sym, ◌∙◌, ap, subst, arith}
 use Rattle.std.specs.Prelude.{◌≢◌, slice_index, slice_range}
+use Rattle.std.proofs.lemmas.Option.{same_Some}
+use Rattle.std.proofs.lemmas.Bool.{false≢true}
 use Rattle.tptp_lex.specs.declared.lexer.Token as lex
 use Rattle.tptp_lex.specs.declared.token.TokenKind.TheVariants.{End}
 use Rattle.tptp_lex.specs.Lexing.{IsNext, IsFault, OnlyBlank}
@@ -18,9 +20,6 @@ use Rattle.tptp_reader.specs.Scanning.{opens, closes, nothing}
 use Rattle.tptp_reader.proofs.Innermost.{token_behind}
 use Rattle.tptp_reader.proofs.Awaited.{same_first, lower_opens, open_wanted, point_wanted, point_last, ended}
 
-false_true : ◌≡◌ {A = Bool} false true → ⊥
-false_true h = cc
-
 record Same (ts : List Token) (ps : List ℕ) (a : ℕ) (us : List Token) (qs : List ℕ) (b : ℕ) : Type 0 where
   tokens : ts ≡ us
   places : ps ≡ qs
@@ -36,19 +35,19 @@ same_more t u token other ts us ps qs a b e f s = record {
 -- the point comes last
 one_last : (text : List ℕ) (from : ℕ) (ts us : List Token) (ps qs : List ℕ) (a b : ℕ) → Tokens text from ts ps a → nothing ts ≡ true → Tokens text from us qs b → nothing us ≡ true → Same ts ps a us qs b
 one_last text from ts us ps qs a b none h none k = record { tokens = refl; places = refl; after = refl }
-one_last text from ts us ps qs a b none h (one_more n e r) k = absurd (false_true k)
-one_last text from ts us ps qs a b (one_more n e r) h q k = absurd (false_true h)
+one_last text from ts us ps qs a b none h (one_more n e r) k = absurd (false≢true k)
+one_last text from ts us ps qs a b (one_more n e r) h q k = absurd (false≢true h)
 
 last_behind : (token : Token) (ts : List Token) → closes [] (token ∷ ts) ≡ true → nothing ts ≡ true
 last_behind token ts h = sym (point_last ts) ∙ ap (λ (x : Token). closes [] (x ∷ ts)) (sym (point_wanted token ts h)) ∙ h
 
 none_closed : (opened : List Bracket) → closes opened [] ≡ true → ⊥
-none_closed [] h = false_true h
-none_closed (b ∷ opened) h = false_true h
+none_closed [] h = false≢true h
+none_closed (b ∷ opened) h = false≢true h
 
 one_behind : (o : Option (List Bracket)) (ts us : List Token) (ps qs : List ℕ) (a b : ℕ) → is_point (then o (λ left. behind_closing left ts)) ≡ true → is_point (then o (λ left. behind_closing left us)) ≡ true →
     ((left : List Bracket) → closes left ts ≡ true → closes left us ≡ true → Same ts ps a us qs b) → Same ts ps a us qs b
-one_behind None ts us ps qs a b h k go = absurd (false_true h)
+one_behind None ts us ps qs a b h k go = absurd (false≢true h)
 one_behind (Some left) ts us ps qs a b h k go = go left h k
 
 at_place : (text : List ℕ) (t u : lex.Token) (us : List Token) (qs : List ℕ) (b : ℕ) → t ≡ u → Tokens text u.end us qs b → Tokens text t.end us qs b
@@ -73,8 +72,8 @@ opened_behind : (token : Token) (ts : List Token) → opens (token ∷ ts) ≡ t
 opened_behind token ts h = ap (λ (x : Token). opens (x ∷ ts)) (sym (open_wanted token ts h)) ∙ h
 
 one_opening : (text : List ℕ) (from : ℕ) (ts us : List Token) (ps qs : List ℕ) (a b : ℕ) → Tokens text from ts ps a → Tokens text from us qs b → opens ts ≡ true → opens us ≡ true → Same ts ps a us qs b
-one_opening text from ts us ps qs a b none q h k = absurd (false_true h)
-one_opening text from ts us ps qs a b (one_more n e r) none h k = absurd (false_true k)
+one_opening text from ts us ps qs a b none q h k = absurd (false≢true h)
+one_opening text from ts us ps qs a b (one_more n e r) none h k = absurd (false≢true k)
 one_opening text from ts us ps qs a b (one_more {t = t} {token = token} {tokens = more} {places = marks} n e r) (one_more {t = u} {token = other} {tokens = rest} {places = others} m f q) h k =
     let both = same_first text from t u token other n e m f in
     same_more t u token other more rest marks others a b both.0 both.1
@@ -82,17 +81,17 @@ one_opening text from ts us ps qs a b (one_more {t = t} {token = token} {tokens 
 
 lower_behind : (token : Token) (ts : List Token) → is_wide (token ∷ ts) ≡ true → opens ts ≡ true
 lower_behind (lower text) ts h = sym (lower_opens text ts) ∙ h
-lower_behind (upper text) ts h = absurd (false_true h)
-lower_behind (defined word) ts h = absurd (false_true h)
-lower_behind (quoted text) ts h = absurd (false_true h)
-lower_behind distinct ts h = absurd (false_true h)
-lower_behind (number text) ts h = absurd (false_true h)
-lower_behind (sign s) ts h = absurd (false_true h)
+lower_behind (upper text) ts h = absurd (false≢true h)
+lower_behind (defined word) ts h = absurd (false≢true h)
+lower_behind (quoted text) ts h = absurd (false≢true h)
+lower_behind distinct ts h = absurd (false≢true h)
+lower_behind (number text) ts h = absurd (false≢true h)
+lower_behind (sign s) ts h = absurd (false≢true h)
 
 -- one wide statement begins at a place
 one_statement_tokens : (text : List ℕ) (from : ℕ) (ts us : List Token) (ps qs : List ℕ) (a b : ℕ) → Tokens text from ts ps a → Tokens text from us qs b → is_wide ts ≡ true → is_wide us ≡ true → Same ts ps a us qs b
-one_statement_tokens text from ts us ps qs a b none q h k = absurd (false_true h)
-one_statement_tokens text from ts us ps qs a b (one_more n e r) none h k = absurd (false_true k)
+one_statement_tokens text from ts us ps qs a b none q h k = absurd (false≢true h)
+one_statement_tokens text from ts us ps qs a b (one_more n e r) none h k = absurd (false≢true k)
 one_statement_tokens text from ts us ps qs a b (one_more {t = t} {token = token} {tokens = more} {places = marks} n e r) (one_more {t = u} {token = other} {tokens = rest} {places = others} m f q) h k =
     let both = same_first text from t u token other n e m f in
     same_more t u token other more rest marks others a b both.0 both.1
@@ -105,9 +104,6 @@ one_wide text from ts us ps qs a b v w = one_statement_tokens text from ts us ps
 abbrev pub OneStatement : Type 0
 OneStatement = (tokens : List Token) (s t : RawStatement) → early_fault tokens ≡ None → IsStatement tokens s → IsStatement tokens t → s ≡ t
 
-some_fault : (x y : Fault) → Some x ≡ Some y → x ≡ y
-some_fault x y e = cc
-
 none_fault : (o : Option Fault) (x : Fault) → o ≡ None → o ≡ Some x → ⊥
 none_fault o x e f = cc
 
@@ -116,7 +112,7 @@ not_deeper s t e lt le = let same : formula_depth s ≡ formula_depth t = ap for
 
 one_judged : OneStatement → (tokens : List Token) (places : List ℕ) (after : ℕ) (a b : Answer) → Judges tokens places after a → Judges tokens places after b → a ≡ b
 one_judged one tokens places after a b (faulty {fault = x} e) (faulty {fault = y} f) =
-    ap (λ (z : Fault). Answer.refuses (refusal_at places z)) (some_fault x y (sym e ∙ f))
+    ap (λ (z : Fault). Answer.refuses (refusal_at places z)) (same_Some x y (sym e ∙ f))
 one_judged one tokens places after a b (faulty {fault = x} e) (ungrammatical f absent) = absurd (none_fault (early_fault tokens) x f e)
 one_judged one tokens places after a b (faulty {fault = x} e) (deeper f s lt) = absurd (none_fault (early_fault tokens) x f e)
 one_judged one tokens places after a b (faulty {fault = x} e) (spelled f s le) = absurd (none_fault (early_fault tokens) x f e)
@@ -135,7 +131,7 @@ one_judged one tokens places after a b (spelled {s = x} e s le) (spelled {s = y}
 
 -- what a wide statement begins with
 wide_first : (text : List ℕ) (from : ℕ) (ts : List Token) (ps : List ℕ) (a : ℕ) → Tokens text from ts ps a → is_wide ts ≡ true → ((t : lex.Token) → IsNext text from t → t.kind ≢ End → ⊥) → ⊥
-wide_first text from ts ps a none h absent = false_true h
+wide_first text from ts ps a none h absent = false≢true h
 wide_first text from ts ps a (one_more {t = t} {token = token} n e r) h absent = absent t n (ended t.kind (slice_range text t.start t.end) token e)
 
 end_not_next : (text : List ℕ) (from : ℕ) → OnlyBlank text from → (t : lex.Token) → IsNext text from t → t.kind ≢ End → ⊥
@@ -179,7 +175,7 @@ tokens_order text from ts ps a le (one_more {t = t} {tokens = more} {places = ma
 
 first_order : (text : List ℕ) (from : ℕ) (ts : List Token) (ps : List ℕ) (a : ℕ) → Tokens text from ts ps a → is_wide ts ≡ true →
     (from ≤ slice_index ps 0) × ((slice_index ps 0 < a) × (a ≤ length text))
-first_order text from ts ps a none h = absurd (false_true h)
+first_order text from ts ps a none h = absurd (false≢true h)
 first_order text from ts ps a (one_more {t = t} {token = token} {tokens = more} {places = marks} n e r) h =
     let first = n.after in let within = n.within in
     let lt = next_has_byte text from t n (ended t.kind (slice_range text t.start t.end) token e) in

@@ -1,10 +1,12 @@
 -- Where the rows before the grammar refuse nothing, a statement of the grammar is read, and is within the limits but for its
 -- formula's depth.
-use Rattle.std.proofs.Common.{◌≡◌, ◌&&◌, ◌||◌, ◌+◌, ◌-◌, ℕ, Bool, true, false, cond, List, [], ◌∷◌, take, Option, Some, None, refl, sym, ◌∙◌, ap, arith}
+use Rattle.std.proofs.Common.{◌≡◌, ◌||◌, ◌+◌, ◌-◌, ℕ, Bool, true, false, cond, List, [], ◌∷◌, take, Option, Some, None, refl, sym, ◌∙◌, ap, arith}
 use Rattle.std.specs.Prelude.{codes}
 use Rattle.std.specs.Option.{option_map}
 use Rattle.std.specs.Str.{bytes_eq}
 use Rattle.std.proofs.lemmas.Slice.Eq.{bytes_eq-Decides}
+use Rattle.std.proofs.lemmas.Bool.{and_right}
+use Rattle.std.proofs.lemmas.Option.{none-some, same_Some}
 use Rattle.tptp_lex.specs.declared.signs.Sign.TheVariants.{Open, Close, OpenList, CloseList, Comma, Stop}
 use Rattle.tptp_reader.specs.declared.tree.RawRole.{RawRole}
 use Rattle.tptp_reader.specs.Raw.{Name, RawForm, RawTop, RawStatement}
@@ -21,7 +23,6 @@ use Rattle.tptp_reader.specs.SlowTops.{typing_in}
 use Rattle.tptp_reader.specs.SlowForms.{formula_in}
 use Rattle.tptp_reader.specs.SlowStatements.{lower_in, is_last, with_comma, whole_inclusion, part_inclusion, inclusion_in, typed_statement_in, stated_by, stated_in, bodied_in, annotated_in, worded_by, worded_in, statement_in, statements}
 use Rattle.tptp_reader.specs.Kept.{forms}
-use Rattle.tptp_reader.proofs.Behind.{some_not_none, same_some}
 use Rattle.tptp_reader.proofs.Within.{part_within}
 use Rattle.tptp_reader.proofs.WordLaws.{name_read}
 use Rattle.tptp_reader.proofs.TopLaws.{IsShallowTop}
@@ -36,11 +37,11 @@ front word t role body = lower word ∷ sign Open ∷ t ∷ sign Comma ∷ lower
 
 neither_fault : (a b : Option Fault) → or_else a b ≡ None → (a ≡ None) × (b ≡ None)
 neither_fault None b e = (refl, e)
-neither_fault (Some fault) b e = absurd (some_not_none fault (sym e))
+neither_fault (Some fault) b e = absurd (none-some fault (sym e))
 
 no_place : {A B : Type 0} (f : A → B) (o : Option A) → option_map f o ≡ None → o ≡ None
 no_place f None e = refl
-no_place f (Some n) e = absurd (some_not_none (f n) (sym e))
+no_place f (Some n) e = absurd (none-some (f n) (sym e))
 
 added_taken : (n : ℕ) → (6 + n) - 6 ≡ n
 added_taken n = omega arith
@@ -50,16 +51,16 @@ part_is : (word role name : Name) (t : Token) (body : List Token) → name_of t 
 part_is word role name (lower text) body e = ap (λ n. take n body) (added_taken (to_comma 0 body))
 part_is word role name (quoted text) body e = ap (λ n. take n body) (added_taken (to_comma 0 body))
 part_is word role name (number text) body e = ap (λ n. take n body) (added_taken (to_comma 0 body))
-part_is word role name (upper text) body e = absurd (some_not_none name e)
-part_is word role name (defined w) body e = absurd (some_not_none name e)
-part_is word role name distinct body e = absurd (some_not_none name e)
-part_is word role name (sign s) body e = absurd (some_not_none name e)
+part_is word role name (upper text) body e = absurd (none-some name e)
+part_is word role name (defined w) body e = absurd (none-some name e)
+part_is word role name distinct body e = absurd (none-some name e)
+part_is word role name (sign s) body e = absurd (none-some name e)
 
 language_word : (tff fof : Bool) (typed : Bool) → cond tff (Some true) (cond fof (Some false) None) ≡ Some typed → (fof || tff) ≡ true
 language_word true true typed e = refl
 language_word true false typed e = refl
 language_word false true typed e = refl
-language_word false false typed e = absurd (some_not_none typed e)
+language_word false false typed e = absurd (none-some typed e)
 
 -- a formula part that the rows let through is within the limit of nesting
 part_lets : (word role name : Name) (typed : Bool) (t : Token) (body : List Token) → language_of word ≡ Some typed → name_of t ≡ Some name → early_fault (front word t role body) ≡ None → within unnested body ≡ true
@@ -77,17 +78,13 @@ not_include : (word : Name) (typed : Bool) (b : Bool) → bytes_eq word (codes "
 not_include word typed false e l = refl
 not_include word typed true e l =
     let is : word ≡ codes "include" = (bytes_eq-Decides word (codes "include")).0 e in
-    absurd (some_not_none typed (sym (ap language_of is) ∙ l))
+    absurd (none-some typed (sym (ap language_of is) ∙ l))
 
 not_type : (role : Name) (kind : RawRole) (b : Bool) → bytes_eq role (codes "type") ≡ b → role_of role ≡ Some kind → b ≡ false
 not_type role kind false e r = refl
 not_type role kind true e r =
     let is : role ≡ codes "type" = (bytes_eq-Decides role (codes "type")).0 e in
-    absurd (some_not_none kind (sym (ap role_of is) ∙ r))
-
-and_false : (a b : Bool) → b ≡ false → (a && b) ≡ false
-and_false true b e = e
-and_false false b e = refl
+    absurd (none-some kind (sym (ap role_of is) ∙ r))
 
 stated_read : (typed : Bool) (name role : Name) (kind : RawRole) (body ending : List Token) (f : RawForm) → role_of role ≡ Some kind → formula_in forms typed 200 body ≡ Some (f, ending) → IsEnding ending → stated_in forms statements typed name role body ≡ Some (RawStatement.formula name kind f)
 unfolding stated_in
@@ -148,7 +145,7 @@ pub statement_complete : (tokens : List Token) (s : RawStatement) → early_faul
 statement_complete _ _ e (formula {typed = typed} {word = word} {role_word = role} {t = t} {body = body} {ending = ending} {name = name} {role = kind} {f = f} l n r d ends) =
     let lets = part_lets word role name typed t body l n e in
     let whole = formula_complete typed body ending f d lets (ending_follows ending ends).0 in
-    let no = and_false typed (bytes_eq role (codes "type")) (not_type role kind (bytes_eq role (codes "type")) refl r) in
+    let no = and_right typed (bytes_eq role (codes "type")) (not_type role kind (bytes_eq role (codes "type")) refl r) in
     record {
       reads = front_read word typed t name role body l n
           ∙ ap (λ (b : Bool). cond b (option_map statements.of_other (typed_statement_in name body)) (stated_in forms statements typed name role body)) no
@@ -176,4 +173,4 @@ statement_complete _ _ e (part_of_file {word = word} {text = text} {tokens = tok
 
 -- tokens that the rows let through spell at most one statement
 pub one_statement : (tokens : List Token) (s t : RawStatement) → early_fault tokens ≡ None → IsStatement tokens s → IsStatement tokens t → s ≡ t
-one_statement tokens s t e d k = same_some s t (sym (statement_complete tokens s e d).reads ∙ (statement_complete tokens t e k).reads)
+one_statement tokens s t e d k = same_Some s t (sym (statement_complete tokens s e d).reads ∙ (statement_complete tokens t e k).reads)

@@ -3,6 +3,8 @@ use Rattle.std.proofs.Common.{◌≡◌, ◌&&◌, Bool, true, false, cond, List
 use Rattle.std.specs.Prelude.{codes}
 use Rattle.std.specs.Option.{option_map}
 use Rattle.std.specs.Str.{bytes_eq}
+use Rattle.std.proofs.lemmas.Bool.{and_parts}
+use Rattle.std.proofs.lemmas.Option.{none-some, same_Some}
 use Rattle.tptp_lex.specs.declared.signs.Sign.TheVariants.{Open, OpenList, CloseList, Comma}
 use Rattle.tptp_reader.specs.declared.tree.RawRole.{RawRole}
 use Rattle.tptp_reader.specs.Raw.{Name, RawForm, RawTop, RawStatement}
@@ -16,7 +18,7 @@ use Rattle.tptp_reader.specs.SlowTops.{typing_in}
 use Rattle.tptp_reader.specs.SlowForms.{formula_in}
 use Rattle.tptp_reader.specs.SlowStatements.{lower_in, quoted_in, names_in, is_last, with_ending, with_comma, whole_inclusion, part_inclusion, inclusion_in, typed_statement_in, stated_by, stated_in, bodied_in, annotated_in, worded_by, worded_in, statement_in, statements}
 use Rattle.tptp_reader.specs.Kept.{forms}
-use Rattle.tptp_reader.proofs.Behind.{some_not_none, same_some, behind_back}
+use Rattle.tptp_reader.proofs.Behind.{behind_back}
 use Rattle.tptp_reader.proofs.ReadLaws.{then_back}
 use Rattle.tptp_reader.proofs.WordLaws.{name_sound}
 use Rattle.tptp_reader.proofs.TypingLaws.{typing_sound}
@@ -44,7 +46,7 @@ typed_back name tokens s e =
       ending = d.ending;
       is = typing_sound 200 tokens b.middle d.ending d.reads;
       ends = d.ends;
-      same = same_some (RawStatement.typing name b.middle.0 b.middle.1) s b.second;
+      same = same_Some (RawStatement.typing name b.middle.0 b.middle.1) s b.second;
     }
 
 -- a formula that was read
@@ -58,7 +60,7 @@ pub record Stated (typed : Bool) (name role : Name) (tokens : List Token) (s : R
   pub same : RawStatement.formula name kind form ≡ s
 
 stated_by_back : (typed : Bool) (name role : Name) (tokens : List Token) (s : RawStatement) (kind : Option RawRole) → role_of role ≡ kind → stated_by forms statements typed name kind tokens ≡ Some s → Stated typed name role tokens s
-stated_by_back typed name role tokens s None means e = absurd (some_not_none s e)
+stated_by_back typed name role tokens s None means e = absurd (none-some s e)
 stated_by_back typed name role tokens s (Some kind) means e =
     let b = then_back (with_ending (formula_in forms typed 200 tokens)) (λ f. Some (RawStatement.formula name kind f)) s e in
     let d = ended_back (formula_in forms typed 200 tokens) b.middle b.first in
@@ -69,7 +71,7 @@ stated_by_back typed name role tokens s (Some kind) means e =
       means = means;
       is = formula_sound typed 200 tokens b.middle d.ending d.reads;
       ends = d.ends;
-      same = same_some (RawStatement.formula name kind b.middle) s b.second;
+      same = same_Some (RawStatement.formula name kind b.middle) s b.second;
     }
 
 pub stated_back : (typed : Bool) (name role : Name) (tokens : List Token) (s : RawStatement) → stated_in forms statements typed name role tokens ≡ Some s → Stated typed name role tokens s
@@ -80,17 +82,13 @@ same_other : (o : Option RawStatement) (s : RawStatement) → option_map (λ (t 
 same_other None s e = e
 same_other (Some t) s e = e
 
-both_true : (a b : Bool) → (a && b) ≡ true → (a ≡ true) × (b ≡ true)
-both_true true b e = (refl, e)
-both_true false b e = absurd cc
-
 -- the front of a fof or tff statement
 abbrev front : Name → Token → Name → List Token → List Token
 front word t role body = lower word ∷ sign Open ∷ t ∷ sign Comma ∷ lower role ∷ sign Comma ∷ body
 
 body_sound : (word : Name) (typed : Bool) → language_of word ≡ Some typed → (t : Token) (name : Name) → name_of t ≡ Some name → (role : Name) (body : List Token) (s : RawStatement) (b : Bool) → (typed && bytes_eq role (codes "type")) ≡ b → cond b (option_map (λ (x : RawStatement). x) (typed_statement_in name body)) (stated_in forms statements typed name role body) ≡ Some s → IsStatement (front word t role body) s
 body_sound word typed l t name n role body s true is e =
-    let both = both_true typed (bytes_eq role (codes "type")) is in
+    let both = and_parts typed (bytes_eq role (codes "type")) is in
     let d = typed_back name body s (same_other (typed_statement_in name body) s e) in
     subst (IsStatement (front word t role body)) d.same (typing (l ∙ ap Some both.0) n both.1 d.is d.ends)
 body_sound word typed l t name n role body s false is e =
@@ -116,18 +114,18 @@ pub record Included (tokens : List Token) (s : RawStatement) : Type 0 where
 
 whole_by : (text : Name) (rest : List Token) (s : RawStatement) (b : Bool) → is_last rest ≡ b → cond b (Some (RawStatement.inclusion (unescaped text) None)) None ≡ Some s → Included (quoted text ∷ rest) s
 whole_by text rest s true e h =
-    let same = same_some (RawStatement.inclusion (unescaped text) None) s h in
+    let same = same_Some (RawStatement.inclusion (unescaped text) None) s h in
     record {
       file = unescaped text;
       names = None;
       is = λ word w. subst (λ (ts : List Token). IsStatement (lower word ∷ sign Open ∷ quoted text ∷ ts) s) (sym (last_is rest e)) (subst (IsStatement _) same (whole_file w refl));
       same = same;
     }
-whole_by text rest s false e h = absurd (some_not_none s h)
+whole_by text rest s false e h = absurd (none-some s h)
 
 part_by : (text : Name) (inside rest : List Token) (names : List Name) (s : RawStatement) (b : Bool) → is_last rest ≡ b → IsNames inside (sign CloseList ∷ rest) names → cond b (Some (RawStatement.inclusion (unescaped text) (Some names))) None ≡ Some s → Included (quoted text ∷ sign Comma ∷ sign OpenList ∷ inside) s
 part_by text inside rest names s true e d h =
-    let same = same_some (RawStatement.inclusion (unescaped text) (Some names)) s h in
+    let same = same_Some (RawStatement.inclusion (unescaped text) (Some names)) s h in
     let are = subst (λ (ts : List Token). IsNames inside (sign CloseList ∷ ts) names) (last_is rest e) d in
     record {
       file = unescaped text;
@@ -135,7 +133,7 @@ part_by text inside rest names s true e d h =
       is = λ word w. subst (IsStatement _) same (part_of_file w refl are);
       same = same;
     }
-part_by text inside rest names s false e d h = absurd (some_not_none s h)
+part_by text inside rest names s false e d h = absurd (none-some s h)
 
 part_sound : (text : Name) (more : List Token) (s : RawStatement) → part_inclusion text more ≡ Some s → Included (quoted text ∷ sign Comma ∷ more) s
 part_sound text more s e =
@@ -154,7 +152,7 @@ inclusion_back tokens s e =
     subst (λ (ts : List Token). Included ts s) (sym (quoted_back tokens a.middle.0 a.middle.1 a.first)) (inclusion_by a.middle.0 a.middle.1 s (behind Comma a.middle.1) refl a.second)
 
 language_sound : (word : Name) (tokens : List Token) (s : RawStatement) (l : Option Bool) → language_of word ≡ l → worded_by forms statements l tokens ≡ Some s → IsStatement (lower word ∷ sign Open ∷ tokens) s
-language_sound word tokens s None l e = absurd (some_not_none s e)
+language_sound word tokens s None l e = absurd (none-some s e)
 language_sound word tokens s (Some typed) l e = annotated_sound word typed l tokens s e
 
 word_sound : (word : Name) (tokens : List Token) (s : RawStatement) (b : Bool) → bytes_eq word (codes "include") ≡ b → cond b (option_map (λ (x : RawStatement). x) (inclusion_in tokens)) (worded_by forms statements (language_of word) tokens) ≡ Some s → IsStatement (lower word ∷ sign Open ∷ tokens) s

@@ -1,5 +1,6 @@
 -- The slow reader of terms reads what is in the grammar, and where the scan of the nesting lets a term through, it reads it.
 use Rattle.std.proofs.Common.{◌≡◌, ◌<◌, ◌≤◌, ◌+◌, ◌-◌, ℕ, zero, suc, Bool, true, false, List, [], ◌∷◌, length, Option, Some, None, refl, sym, ◌∙◌, ap, subst, arith}
+use Rattle.std.proofs.lemmas.Option.{some_pair_parts, none-some, same_Some}
 use Rattle.tptp_lex.specs.declared.signs.Sign.TheVariants.{Open, Close, Comma}
 use Rattle.tptp_reader.specs.declared.lexeme.Defined.{Defined}
 use Rattle.tptp_reader.specs.declared.lexeme.Defined.TheVariants.{True, False, Individual, Truth, Kind, Other}
@@ -12,8 +13,8 @@ use Rattle.tptp_reader.specs.Within.{within}
 use Rattle.tptp_reader.specs.Parsing.{behind, then}
 use Rattle.tptp_reader.specs.SlowLists.{goes_on, made, ended_by, separated}
 use Rattle.tptp_reader.specs.SlowTerms.{defined_term, symbol_term, term_by, no_terms, term_in, arguments_in}
-use Rattle.tptp_reader.proofs.Behind.{some_not_none, same_some, behind_back}
-use Rattle.tptp_reader.proofs.ReadLaws.{same_read, same_value, made_back, made_goes, ended_back, ended_goes}
+use Rattle.tptp_reader.proofs.Behind.{behind_back}
+use Rattle.tptp_reader.proofs.ReadLaws.{same_read, made_back, made_goes, ended_back, ended_goes}
 use Rattle.tptp_reader.proofs.Lists.{Shrinks, Chain, last, more, chain_read, read_chain}
 use Rattle.tptp_reader.proofs.Opens.{opens, inside}
 use Rattle.tptp_reader.proofs.WordLaws.{word_passes}
@@ -50,24 +51,24 @@ symbol_sound typed arguments s t f w tokens u rest (Some inner) b e =
 defined_sound : (typed : Bool) (word : Defined) (tokens : List Token) (u : RawTerm) (rest : List Token) → then {B = RawTerm × List Token} (defined_term typed word) (λ u. Some (u, tokens)) ≡ Some (u, rest) → IsTerm typed (defined word ∷ tokens) rest u
 defined_sound true Individual tokens u rest e = same_read (λ ts x. IsTerm true (defined Individual ∷ tokens) ts x) RawTerm.individual u tokens rest e term_individual
 defined_sound true Truth tokens u rest e = same_read (λ ts x. IsTerm true (defined Truth ∷ tokens) ts x) RawTerm.truth u tokens rest e term_truth
-defined_sound true True tokens u rest e = absurd (some_not_none (u, rest) e)
-defined_sound true False tokens u rest e = absurd (some_not_none (u, rest) e)
-defined_sound true Kind tokens u rest e = absurd (some_not_none (u, rest) e)
-defined_sound true Other tokens u rest e = absurd (some_not_none (u, rest) e)
-defined_sound false word tokens u rest e = absurd (some_not_none (u, rest) e)
+defined_sound true True tokens u rest e = absurd (none-some (u, rest) e)
+defined_sound true False tokens u rest e = absurd (none-some (u, rest) e)
+defined_sound true Kind tokens u rest e = absurd (none-some (u, rest) e)
+defined_sound true Other tokens u rest e = absurd (none-some (u, rest) e)
+defined_sound false word tokens u rest e = absurd (none-some (u, rest) e)
 
 by_sound : (typed : Bool) (arguments : List Token → Option (List RawTerm × List Token)) → SoundTerms typed arguments → SoundTerm typed (term_by typed arguments)
 by_sound typed arguments s (upper x ∷ tokens) u rest e = same_read (λ ts v. IsTerm typed (upper x ∷ tokens) ts v) (RawTerm.variable x) u tokens rest e term_variable
 by_sound typed arguments s (defined word ∷ tokens) u rest e = defined_sound typed word tokens u rest e
 by_sound typed arguments s (lower f ∷ tokens) u rest e = symbol_sound typed arguments s (lower f) f refl tokens u rest (behind Open tokens) refl e
 by_sound typed arguments s (quoted f ∷ tokens) u rest e = symbol_sound typed arguments s (quoted f) f refl tokens u rest (behind Open tokens) refl e
-by_sound typed arguments s [] u rest e = absurd (some_not_none (u, rest) e)
-by_sound typed arguments s (distinct ∷ tokens) u rest e = absurd (some_not_none (u, rest) e)
-by_sound typed arguments s (number text ∷ tokens) u rest e = absurd (some_not_none (u, rest) e)
-by_sound typed arguments s (sign x ∷ tokens) u rest e = absurd (some_not_none (u, rest) e)
+by_sound typed arguments s [] u rest e = absurd (none-some (u, rest) e)
+by_sound typed arguments s (distinct ∷ tokens) u rest e = absurd (none-some (u, rest) e)
+by_sound typed arguments s (number text ∷ tokens) u rest e = absurd (none-some (u, rest) e)
+by_sound typed arguments s (sign x ∷ tokens) u rest e = absurd (none-some (u, rest) e)
 
 none_sound : (typed : Bool) → SoundTerms typed no_terms
-none_sound typed tokens us rest e = absurd (some_not_none (us, rest) e)
+none_sound typed tokens us rest e = absurd (none-some (us, rest) e)
 
 -- what is read as a term is one
 pub term_sound : (typed : Bool) (room : ℕ) (tokens : List Token) (u : RawTerm) (rest : List Token) → term_in typed room tokens ≡ Some (u, rest) → IsTerm typed tokens rest u
@@ -138,13 +139,13 @@ listed RawTerms.none = refl
 listed (RawTerms.more u us) = ap (RawTerms.more u) (listed us)
 
 symbol_read : (typed : Bool) (room : ℕ) (t : Token) (f : Name) → word_of t ≡ Some f → (tokens : List Token) → term_in typed room (t ∷ tokens) ≡ symbol_term (arguments_in typed room) f tokens
-symbol_read typed room (lower text) f e tokens = term_lower typed room text tokens ∙ ap (λ (g : Name). symbol_term (arguments_in typed room) g tokens) (same_some text f e)
-symbol_read typed room (quoted text) f e tokens = term_quoted typed room text tokens ∙ ap (λ (g : Name). symbol_term (arguments_in typed room) g tokens) (same_some text f e)
-symbol_read typed room (upper text) f e tokens = absurd (some_not_none f e)
-symbol_read typed room (defined word) f e tokens = absurd (some_not_none f e)
-symbol_read typed room distinct f e tokens = absurd (some_not_none f e)
-symbol_read typed room (number text) f e tokens = absurd (some_not_none f e)
-symbol_read typed room (sign x) f e tokens = absurd (some_not_none f e)
+symbol_read typed room (lower text) f e tokens = term_lower typed room text tokens ∙ ap (λ (g : Name). symbol_term (arguments_in typed room) g tokens) (same_Some text f e)
+symbol_read typed room (quoted text) f e tokens = term_quoted typed room text tokens ∙ ap (λ (g : Name). symbol_term (arguments_in typed room) g tokens) (same_Some text f e)
+symbol_read typed room (upper text) f e tokens = absurd (none-some f e)
+symbol_read typed room (defined word) f e tokens = absurd (none-some f e)
+symbol_read typed room distinct f e tokens = absurd (none-some f e)
+symbol_read typed room (number text) f e tokens = absurd (none-some f e)
+symbol_read typed room (sign x) f e tokens = absurd (none-some f e)
 
 -- where the scan of the nesting lets a term through, and no bracket follows it, it is read
 mutual
@@ -175,4 +176,4 @@ mutual
 -- one front of the tokens at most spells a term, where no bracket follows, and it spells one
 pub one_term : (typed : Bool) (s : Nesting) (tokens xs ys : List Token) (u v : RawTerm) → within s tokens ≡ true → IsTerm typed tokens xs u → IsTerm typed tokens ys v → behind Open xs ≡ None → behind Open ys ≡ None → (u ≡ v) × (xs ≡ ys)
 one_term typed s tokens xs ys u v h d e p q =
-    same_value u v xs ys (sym (term_read typed 200 s tokens xs u d h (omega arith) p) ∙ term_read typed 200 s tokens ys v e h (omega arith) q)
+    some_pair_parts u v xs ys (sym (term_read typed 200 s tokens xs u d h (omega arith) p) ∙ term_read typed 200 s tokens ys v e h (omega arith) q)

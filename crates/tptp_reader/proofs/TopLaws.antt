@@ -1,6 +1,7 @@
 -- The slow reader of declared types reads what is in the grammar, and where the scan of the nesting lets one through, it
 -- reads it.
 use Rattle.std.proofs.Common.{◌≡◌, ◌<◌, ◌≤◌, ◌+◌, ◌-◌, ℕ, zero, suc, Bool, true, false, cond, List, [], ◌∷◌, length, Option, Some, None, refl, sym, ◌∙◌, ap, subst, arith}
+use Rattle.std.proofs.lemmas.Option.{some_pair_parts, none-some}
 use Rattle.tptp_lex.specs.declared.signs.Sign.{Sign}
 use Rattle.tptp_lex.specs.declared.signs.Sign.TheVariants.{Open, Close, OpenList, CloseList, Colon, AllTypes, Arrow, Star}
 use Rattle.tptp_reader.specs.Raw.{RawType, RawTypes, RawVariable, RawTop, raw_type_depth, raw_types_depth}
@@ -13,8 +14,8 @@ use Rattle.tptp_reader.specs.View.{raw_types_of}
 use Rattle.tptp_reader.specs.SlowLists.{goes_on, made, ended_by, followed_all}
 use Rattle.tptp_reader.specs.SlowTypes.{type_in, variables_in}
 use Rattle.tptp_reader.specs.SlowTops.{from_type, plain_top_in, result_in, product_from, after_first, first_in_bracket, begins_top, bracketed_top_by, type_variables_in, bound_top_by, no_top, top_in}
-use Rattle.tptp_reader.proofs.Behind.{some_not_none, behind_back}
-use Rattle.tptp_reader.proofs.ReadLaws.{same_read, same_value, then_back, made_back, made_goes, ended_back, ended_goes}
+use Rattle.tptp_reader.proofs.Behind.{behind_back}
+use Rattle.tptp_reader.proofs.ReadLaws.{same_read, then_back, made_back, made_goes, ended_back, ended_goes}
 use Rattle.tptp_reader.proofs.Lists.{followed_chain, chain_followed}
 use Rattle.tptp_reader.proofs.Opens.{opens, inside, inside_list, binds, bound}
 use Rattle.tptp_reader.proofs.WordLaws.{word_is_no_sign}
@@ -109,7 +110,7 @@ bound_sound inner s room tokens top rest e =
     subst (λ (ts : List Token). IsTop (sign AllTypes ∷ ts) rest top) (sym binders.begins) (for_all_types binders.variables (s x.middle.1 m.from rest m.reads) (sym m.makes))
 
 none_sound : (t : Token) → SoundBehind t no_top
-none_sound t tokens top rest e = absurd (some_not_none (top, rest) e)
+none_sound t tokens top rest e = absurd (none-some (top, rest) e)
 
 other_sound : (bracketed : List Token → Option (RawTop × List Token)) → SoundBehind (sign Open) bracketed → (room : ℕ) (tokens : List Token) (top : RawTop) (rest : List Token) (r : Option (List Token)) → behind Open tokens ≡ r →
     goes_on r bracketed (plain_top_in room tokens) ≡ Some (top, rest) → IsTop tokens rest top
@@ -188,7 +189,7 @@ type_is_no_sign _ rest _ (type_constant {t = t} {c = c} w) = word_is_no_sign t c
 type_is_no_sign _ rest _ (type_applied {t = t} {tokens = inner} {c = c} w d) = word_is_no_sign t c w (sign Open ∷ inner)
 
 no_sign : (next : Option Sign) (s : Sign) → next ≡ None → next ≡ Some s → ⊥
-no_sign next s e h = some_not_none s (sym e ∙ h)
+no_sign next s e h = none-some s (sym e ∙ h)
 
 top_type : (room : ℕ) (tokens rest : List Token) (t : RawType) → IsType tokens rest t → top_in room tokens ≡ plain_top_in room tokens
 top_type room tokens rest t d =
@@ -295,4 +296,4 @@ top_read room s _ rest top (product {tokens = inner} {middle = middle} {ts = ts}
 -- one front of the tokens at most spells a declared type, where neither a bracket nor an arrow follows, and it spells one
 pub one_top : (s : Nesting) (tokens xs ys : List Token) (top other : RawTop) → within s tokens ≡ true → IsTop tokens xs top → IsTop tokens ys other → behind Open xs ≡ None → behind Arrow xs ≡ None → behind Open ys ≡ None → behind Arrow ys ≡ None → (top ≡ other) × (xs ≡ ys)
 one_top s tokens xs ys top other h d e p q u v =
-    same_value top other xs ys (sym (top_read 200 s tokens xs top d h (omega arith) p q) ∙ top_read 200 s tokens ys other e h (omega arith) u v)
+    some_pair_parts top other xs ys (sym (top_read 200 s tokens xs top d h (omega arith) p q) ∙ top_read 200 s tokens ys other e h (omega arith) u v)

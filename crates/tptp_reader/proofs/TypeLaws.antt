@@ -1,5 +1,6 @@
 -- The slow reader of types reads what is in the grammar, and where the scan of the nesting lets a type through, it reads it.
 use Rattle.std.proofs.Common.{◌≡◌, ◌<◌, ◌≤◌, ◌+◌, ◌-◌, ℕ, zero, suc, true, List, [], ◌∷◌, length, Option, Some, None, refl, sym, ◌∙◌, ap, subst, arith}
+use Rattle.std.proofs.lemmas.Option.{some_pair_parts, none-some, same_Some}
 use Rattle.tptp_lex.specs.declared.signs.Sign.{Sign}
 use Rattle.tptp_lex.specs.declared.signs.Sign.TheVariants.{Open, Close, Comma}
 use Rattle.tptp_reader.specs.declared.lexeme.Defined.{Defined}
@@ -13,8 +14,8 @@ use Rattle.tptp_reader.specs.Within.{within}
 use Rattle.tptp_reader.specs.Parsing.{behind, then}
 use Rattle.tptp_reader.specs.SlowLists.{goes_on, made, ended_by, separated}
 use Rattle.tptp_reader.specs.SlowTypes.{defined_type, constructed_type, type_by, no_types, type_in, type_arguments_in}
-use Rattle.tptp_reader.proofs.Behind.{some_not_none, same_some, behind_back}
-use Rattle.tptp_reader.proofs.ReadLaws.{same_read, same_value, made_back, made_goes, ended_back, ended_goes}
+use Rattle.tptp_reader.proofs.Behind.{behind_back}
+use Rattle.tptp_reader.proofs.ReadLaws.{same_read, made_back, made_goes, ended_back, ended_goes}
 use Rattle.tptp_reader.proofs.Lists.{Shrinks, Chain, last, more, chain_read, read_chain}
 use Rattle.tptp_reader.proofs.Opens.{opens, inside}
 use Rattle.tptp_reader.proofs.WordLaws.{word_passes}
@@ -52,22 +53,22 @@ defined_sound : (word : Defined) (tokens : List Token) (u : RawType) (rest : Lis
 defined_sound Individual tokens u rest e = same_read (λ ts x. IsType (defined Individual ∷ tokens) ts x) RawType.individual u tokens rest e type_individual
 defined_sound Truth tokens u rest e = same_read (λ ts x. IsType (defined Truth ∷ tokens) ts x) RawType.truth u tokens rest e type_truth
 defined_sound Kind tokens u rest e = same_read (λ ts x. IsType (defined Kind ∷ tokens) ts x) RawType.kind u tokens rest e type_kind
-defined_sound True tokens u rest e = absurd (some_not_none (u, rest) e)
-defined_sound False tokens u rest e = absurd (some_not_none (u, rest) e)
-defined_sound Other tokens u rest e = absurd (some_not_none (u, rest) e)
+defined_sound True tokens u rest e = absurd (none-some (u, rest) e)
+defined_sound False tokens u rest e = absurd (none-some (u, rest) e)
+defined_sound Other tokens u rest e = absurd (none-some (u, rest) e)
 
 by_sound : (arguments : List Token → Option (List RawType × List Token)) → SoundTypes arguments → SoundType (type_by arguments)
 by_sound arguments s (upper x ∷ tokens) u rest e = same_read (λ ts v. IsType (upper x ∷ tokens) ts v) (RawType.variable x) u tokens rest e type_variable
 by_sound arguments s (defined word ∷ tokens) u rest e = defined_sound word tokens u rest e
 by_sound arguments s (lower c ∷ tokens) u rest e = constructor_sound arguments s (lower c) c refl tokens u rest (behind Open tokens) refl e
 by_sound arguments s (quoted c ∷ tokens) u rest e = constructor_sound arguments s (quoted c) c refl tokens u rest (behind Open tokens) refl e
-by_sound arguments s [] u rest e = absurd (some_not_none (u, rest) e)
-by_sound arguments s (distinct ∷ tokens) u rest e = absurd (some_not_none (u, rest) e)
-by_sound arguments s (number text ∷ tokens) u rest e = absurd (some_not_none (u, rest) e)
-by_sound arguments s (sign x ∷ tokens) u rest e = absurd (some_not_none (u, rest) e)
+by_sound arguments s [] u rest e = absurd (none-some (u, rest) e)
+by_sound arguments s (distinct ∷ tokens) u rest e = absurd (none-some (u, rest) e)
+by_sound arguments s (number text ∷ tokens) u rest e = absurd (none-some (u, rest) e)
+by_sound arguments s (sign x ∷ tokens) u rest e = absurd (none-some (u, rest) e)
 
 none_sound : SoundTypes no_types
-none_sound tokens ts rest e = absurd (some_not_none (ts, rest) e)
+none_sound tokens ts rest e = absurd (none-some (ts, rest) e)
 
 -- what is read as a type is one
 pub type_sound : (room : ℕ) (tokens : List Token) (t : RawType) (rest : List Token) → type_in room tokens ≡ Some (t, rest) → IsType tokens rest t
@@ -147,13 +148,13 @@ types_listed RawTypes.none = refl
 types_listed (RawTypes.more t ts) = ap (RawTypes.more t) (types_listed ts)
 
 constructor_read : (room : ℕ) (t : Token) (c : Name) → word_of t ≡ Some c → (tokens : List Token) → type_in room (t ∷ tokens) ≡ constructed_type (type_arguments_in room) c tokens
-constructor_read room (lower text) c e tokens = type_lower room text tokens ∙ ap (λ (g : Name). constructed_type (type_arguments_in room) g tokens) (same_some text c e)
-constructor_read room (quoted text) c e tokens = type_quoted room text tokens ∙ ap (λ (g : Name). constructed_type (type_arguments_in room) g tokens) (same_some text c e)
-constructor_read room (upper text) c e tokens = absurd (some_not_none c e)
-constructor_read room (defined word) c e tokens = absurd (some_not_none c e)
-constructor_read room distinct c e tokens = absurd (some_not_none c e)
-constructor_read room (number text) c e tokens = absurd (some_not_none c e)
-constructor_read room (sign x) c e tokens = absurd (some_not_none c e)
+constructor_read room (lower text) c e tokens = type_lower room text tokens ∙ ap (λ (g : Name). constructed_type (type_arguments_in room) g tokens) (same_Some text c e)
+constructor_read room (quoted text) c e tokens = type_quoted room text tokens ∙ ap (λ (g : Name). constructed_type (type_arguments_in room) g tokens) (same_Some text c e)
+constructor_read room (upper text) c e tokens = absurd (none-some c e)
+constructor_read room (defined word) c e tokens = absurd (none-some c e)
+constructor_read room distinct c e tokens = absurd (none-some c e)
+constructor_read room (number text) c e tokens = absurd (none-some c e)
+constructor_read room (sign x) c e tokens = absurd (none-some c e)
 
 -- no bracket is the sign between
 abbrev pub IsNoBracket : Sign → Type 0
@@ -190,4 +191,4 @@ mutual
 -- one front of the tokens at most spells a type, where no bracket follows, and it spells one
 pub one_type : (s : Nesting) (tokens xs ys : List Token) (t u : RawType) → within s tokens ≡ true → IsType tokens xs t → IsType tokens ys u → behind Open xs ≡ None → behind Open ys ≡ None → (t ≡ u) × (xs ≡ ys)
 one_type s tokens xs ys t u h d e p q =
-    same_value t u xs ys (sym (type_read 200 s tokens xs t d h (omega arith) p) ∙ type_read 200 s tokens ys u e h (omega arith) q)
+    some_pair_parts t u xs ys (sym (type_read 200 s tokens xs t d h (omega arith) p) ∙ type_read 200 s tokens ys u e h (omega arith) q)

@@ -1,5 +1,6 @@
 -- The slow reader of declarations, against the grammar.
 use Rattle.std.proofs.Common.{◌≡◌, ◌<◌, ◌≤◌, ◌+◌, ◌-◌, ℕ, zero, suc, true, List, ◌∷◌, length, Option, Some, None, refl, sym, ◌∙◌, ap, subst, arith}
+use Rattle.std.proofs.lemmas.Option.{some_pair_parts, none-some}
 use Rattle.tptp_lex.specs.declared.signs.Sign.TheVariants.{Open, Close, Colon, Arrow}
 use Rattle.tptp_reader.specs.Raw.{Name, RawTop}
 use Rattle.tptp_reader.specs.Tokens.{Token, sign}
@@ -10,8 +11,8 @@ use Rattle.tptp_reader.specs.Parsing.{behind, then}
 use Rattle.tptp_reader.specs.SlowLists.{goes_on, made, ended_by}
 use Rattle.tptp_reader.specs.SlowWords.{word_in}
 use Rattle.tptp_reader.specs.SlowTops.{top_in, declaration, declaration_in, no_typing, typing_in}
-use Rattle.tptp_reader.proofs.Behind.{some_not_none, behind_back}
-use Rattle.tptp_reader.proofs.ReadLaws.{same_value, then_back, made_back, made_goes, ended_back, ended_goes}
+use Rattle.tptp_reader.proofs.Behind.{behind_back}
+use Rattle.tptp_reader.proofs.ReadLaws.{then_back, made_back, made_goes, ended_back, ended_goes}
 use Rattle.tptp_reader.proofs.Opens.{opens, inside}
 use Rattle.tptp_reader.proofs.WordLaws.{word_passes, word_is_no_sign, word_sound}
 use Rattle.tptp_reader.proofs.TopLaws.{IsShallowTop, top_sound, top_fewer, top_depth, top_read}
@@ -39,7 +40,7 @@ by_sound bracketed s room tokens typing rest (Some inner) b e =
 -- what is read as a declaration is one
 pub typing_sound : (room : ℕ) (tokens : List Token) (typing : Name × RawTop) (rest : List Token) → typing_in room tokens ≡ Some (typing, rest) → IsTyping tokens rest typing.0 typing.1
 unfolding typing_in
-typing_sound zero tokens typing rest e = by_sound no_typing (λ ts x xs h. absurd (some_not_none (x, xs) h)) zero tokens typing rest (behind Open tokens) refl e
+typing_sound zero tokens typing rest e = by_sound no_typing (λ ts x xs h. absurd (none-some (x, xs) h)) zero tokens typing rest (behind Open tokens) refl e
 typing_sound (suc room) tokens typing rest e =
     by_sound (λ ts. ended_by Close (typing_in room ts)) (λ ts x xs h. bracketed_typing (typing_sound room ts x (sign Close ∷ xs) (ended_back Close (typing_in room ts) x xs h)))
     (suc room) tokens typing rest (behind Open tokens) refl e
@@ -67,7 +68,7 @@ declared_read room t f inner rest top w e =
 pub typing_read : (room : ℕ) (s : Nesting) (tokens rest : List Token) (f : Name) (top : RawTop) → IsTyping tokens rest f top → within s tokens ≡ true → 200 ≤ room + s.count → behind Open rest ≡ None → behind Arrow rest ≡ None →
     typing_in room tokens ≡ Some (declaration f top, rest)
 typing_read room s _ rest f top (declares {t = t} {tokens = inner} w d) h le ends arrow =
-    typing_plain room (t ∷ sign Colon ∷ inner) (λ e. some_not_none Open (sym (word_is_no_sign t f w (sign Colon ∷ inner)) ∙ e))
+    typing_plain room (t ∷ sign Colon ∷ inner) (λ e. none-some Open (sym (word_is_no_sign t f w (sign Colon ∷ inner)) ∙ e))
     ∙ declared_read room t f inner rest top w (top_read room s inner rest top d (word_passes t f w s (sign Colon ∷ inner) h) le ends arrow)
 typing_read room s _ rest f top (bracketed_typing {tokens = inner} d) h le ends arrow =
     let open_left = opens s inner h in
@@ -81,5 +82,5 @@ typing_read room s _ rest f top (bracketed_typing {tokens = inner} d) h le ends 
 pub one_typing : (s : Nesting) (tokens xs ys : List Token) (f g : Name) (top other : RawTop) → within s tokens ≡ true → IsTyping tokens xs f top → IsTyping tokens ys g other → behind Open xs ≡ None → behind Arrow xs ≡ None → behind Open ys ≡ None → behind Arrow ys ≡ None →
     (f ≡ g) × (top ≡ other) × (xs ≡ ys)
 one_typing s tokens xs ys f g top other h d e p q u v =
-    let same = same_value (declaration f top) (declaration g other) xs ys (sym (typing_read 200 s tokens xs f top d h (omega arith) p q) ∙ typing_read 200 s tokens ys g other e h (omega arith) u v) in
+    let same = some_pair_parts (declaration f top) (declaration g other) xs ys (sym (typing_read 200 s tokens xs f top d h (omega arith) p q) ∙ typing_read 200 s tokens ys g other e h (omega arith) u v) in
     (ap (λ (x : Name × RawTop). x.0) same.0, ap (λ (x : Name × RawTop). x.1) same.0, same.1)

@@ -1,10 +1,11 @@
 -- The bytes that are meant in a text are a text.
-use Rattle.std.proofs.Common.{◌≡◌, ◌==◌, ◌&&◌, ◌+◌, ◌/◌, ◌<◌, ◌≤◌, ◌⊎◌, inl, inr, ℕ, Bool, true, false, cond, List, [], ◌∷◌, ◌++◌, refl, sym, ◌∙◌, ap, subst, arith}
+use Rattle.std.proofs.Common.{◌≡◌, ◌==◌, ◌+◌, ◌/◌, ◌<◌, ◌≤◌, ◌⊎◌, inl, inr, ℕ, Bool, true, false, cond, List, [], ◌∷◌, ◌++◌, refl, sym, ◌∙◌, ap, subst, arith}
 use Rattle.std.specs.Prelude.{nat_lt}
 use Rattle.std.specs.Str.{IsUtf8}
 use Rattle.std.proofs.lemmas.Bool.Decides.{nat_tests}
 use Rattle.std.proofs.Math.Utf8.{encode, encodes, next, scalar, scalars}
 use Rattle.std.proofs.lemmas.Str.{encode_ascii}
+use Rattle.std.proofs.lemmas.Bool.{and_from, and_parts}
 use Rattle.tptp_reader.specs.Grammar.{unescaped}
 
 -- bytes beyond ASCII
@@ -87,30 +88,17 @@ characters [] = refl
 characters (c ∷ []) = only_char c (c == 92) refl
 characters (c ∷ d ∷ cs) = two_characters c d cs (c == 92) refl (characters cs) (characters (d ∷ cs))
 
-left_true : (a b : Bool) → (a && b) ≡ true → a ≡ true
-left_true true b e = refl
-left_true false b e = e
-
-right_true : (a b : Bool) → (a && b) ≡ true → b ≡ true
-right_true true b e = e
-right_true false b e = absurd cc
-
-both_true : (a b : Bool) → a ≡ true → b ≡ true → (a && b) ≡ true
-both_true true true p q = refl
-both_true true false p q = q
-both_true false b p q = p
-
 two_scalars : (c d : ℕ) (cs : List ℕ) (b : Bool) → scalar c ≡ true → scalar d ≡ true → scalars (unescaped cs) ≡ true → scalars (unescaped (d ∷ cs)) ≡ true → scalars (cond b (d ∷ unescaped cs) (c ∷ unescaped (d ∷ cs))) ≡ true
-two_scalars c d cs true h k later next = both_true (scalar d) (scalars (unescaped cs)) k later
-two_scalars c d cs false h k later next = both_true (scalar c) (scalars (unescaped (d ∷ cs))) h next
+two_scalars c d cs true h k later next = and_from (scalar d) (scalars (unescaped cs)) k later
+two_scalars c d cs false h k later next = and_from (scalar c) (scalars (unescaped (d ∷ cs))) h next
 
 scalars_meant : (cs : List ℕ) → scalars cs ≡ true → scalars (unescaped cs) ≡ true
 scalars_meant [] h = refl
 scalars_meant (c ∷ []) h = h
 scalars_meant (c ∷ d ∷ cs) h =
-    let after = right_true (scalar c) (scalars (d ∷ cs)) h in
-    two_scalars c d cs (c == 92) (left_true (scalar c) (scalars (d ∷ cs)) h) (left_true (scalar d) (scalars cs) after)
-    (scalars_meant cs (right_true (scalar d) (scalars cs) after)) (scalars_meant (d ∷ cs) after)
+    let after = (and_parts (scalar c) (scalars (d ∷ cs)) h).1 in
+    two_scalars c d cs (c == 92) ((and_parts (scalar c) (scalars (d ∷ cs)) h).0) ((and_parts (scalar d) (scalars cs) after).0)
+    (scalars_meant cs ((and_parts (scalar d) (scalars cs) after).1)) (scalars_meant (d ∷ cs) after)
 
 pub unescaped_text : (bytes : List ℕ) → IsUtf8 bytes → IsUtf8 (unescaped bytes)
 unescaped_text bytes u = (unescaped u.0, (scalars_meant u.0 u.1.0, sym (characters u.0) ∙ ap unescaped u.1.1))

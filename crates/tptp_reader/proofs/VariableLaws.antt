@@ -1,5 +1,6 @@
 -- The slow reader of the variables of quantifiers, against the grammar.
 use Rattle.std.proofs.Common.{◌≡◌, ◌<◌, ◌≤◌, ◌+◌, ℕ, suc, Bool, true, false, List, [], ◌∷◌, length, Option, Some, None, refl, sym, ◌∙◌, ap, subst, arith}
+use Rattle.std.proofs.lemmas.Option.{some_pair_parts, none-some}
 use Rattle.tptp_lex.specs.declared.signs.Sign.TheVariants.{Open, CloseList, Comma, Colon}
 use Rattle.tptp_reader.specs.Raw.{Name, RawType, RawVariable, RawForm, Quantifier, written_depth}
 use Rattle.tptp_reader.specs.Tokens.{Token, lower, upper, defined, quoted, distinct, number, sign}
@@ -10,8 +11,8 @@ use Rattle.tptp_reader.specs.Within.{within}
 use Rattle.tptp_reader.specs.Parsing.{behind}
 use Rattle.tptp_reader.specs.SlowLists.{goes_on, made}
 use Rattle.tptp_reader.specs.SlowTypes.{type_in, written_type_in, variable_of, variable_in, variables_in}
-use Rattle.tptp_reader.proofs.Behind.{some_not_none, behind_back}
-use Rattle.tptp_reader.proofs.ReadLaws.{same_value, made_back, made_goes}
+use Rattle.tptp_reader.proofs.Behind.{behind_back}
+use Rattle.tptp_reader.proofs.ReadLaws.{made_back, made_goes}
 use Rattle.tptp_reader.proofs.Lists.{Shrinks, Chain, last, more, chain_read, read_chain}
 use Rattle.tptp_reader.proofs.TypeLaws.{type_sound, type_fewer, type_passes, type_depth, type_read}
 use Rattle.tptp_reader.proofs.TypeSteps.{variable_upper}
@@ -19,7 +20,7 @@ use Rattle.tptp_reader.proofs.TypeSteps.{variable_upper}
 colon_sound : (room : ℕ) (x : Name) (tokens : List Token) (t : Option RawType) (rest : List Token) (r : Option (List Token)) → behind Colon tokens ≡ r →
     goes_on r (λ rest. made Some (type_in room rest)) (Some (None, tokens)) ≡ Some (t, rest) → IsVariable true (upper x ∷ tokens) rest (variable_of x t)
 colon_sound room x tokens t rest None b e =
-    let same = same_value None t tokens rest e in
+    let same = some_pair_parts None t tokens rest e in
     subst (λ (ts : List Token). IsVariable true (upper x ∷ tokens) ts (variable_of x t)) same.1 (untyped (ap (variable_of x) (sym same.0)))
 colon_sound room x tokens t rest (Some inner) b e =
     let m = made_back Some (type_in room inner) t rest e in
@@ -28,7 +29,7 @@ colon_sound room x tokens t rest (Some inner) b e =
 
 written_sound : (typed : Bool) (room : ℕ) (x : Name) (tokens : List Token) (t : Option RawType) (rest : List Token) → written_type_in typed room tokens ≡ Some (t, rest) → IsVariable typed (upper x ∷ tokens) rest (variable_of x t)
 written_sound false room x tokens t rest e =
-    let same = same_value None t tokens rest e in
+    let same = some_pair_parts None t tokens rest e in
     subst (λ (ts : List Token). IsVariable false (upper x ∷ tokens) ts (variable_of x t)) same.1 (untyped (ap (variable_of x) (sym same.0)))
 written_sound true room x tokens t rest e = colon_sound room x tokens t rest (behind Colon tokens) refl e
 
@@ -37,13 +38,13 @@ unfolding variable_in
 variable_sound typed room (upper x ∷ tokens) v rest e =
     let m = made_back (variable_of x) (written_type_in typed room tokens) v rest e in
     subst (IsVariable typed (upper x ∷ tokens) rest) m.makes (written_sound typed room x tokens m.from rest m.reads)
-variable_sound typed room [] v rest e = absurd (some_not_none (v, rest) e)
-variable_sound typed room (lower f ∷ tokens) v rest e = absurd (some_not_none (v, rest) e)
-variable_sound typed room (defined word ∷ tokens) v rest e = absurd (some_not_none (v, rest) e)
-variable_sound typed room (quoted f ∷ tokens) v rest e = absurd (some_not_none (v, rest) e)
-variable_sound typed room (distinct ∷ tokens) v rest e = absurd (some_not_none (v, rest) e)
-variable_sound typed room (number text ∷ tokens) v rest e = absurd (some_not_none (v, rest) e)
-variable_sound typed room (sign s ∷ tokens) v rest e = absurd (some_not_none (v, rest) e)
+variable_sound typed room [] v rest e = absurd (none-some (v, rest) e)
+variable_sound typed room (lower f ∷ tokens) v rest e = absurd (none-some (v, rest) e)
+variable_sound typed room (defined word ∷ tokens) v rest e = absurd (none-some (v, rest) e)
+variable_sound typed room (quoted f ∷ tokens) v rest e = absurd (none-some (v, rest) e)
+variable_sound typed room (distinct ∷ tokens) v rest e = absurd (none-some (v, rest) e)
+variable_sound typed room (number text ∷ tokens) v rest e = absurd (none-some (v, rest) e)
+variable_sound typed room (sign s ∷ tokens) v rest e = absurd (none-some (v, rest) e)
 
 -- a variable takes at least one token
 pub variable_fewer : (typed : Bool) (tokens rest : List Token) (v : RawVariable) → IsVariable typed tokens rest v → length rest < length tokens

@@ -1,8 +1,9 @@
 -- Where the scan of the nesting refuses nothing in a part, the part is within the limit.
-use Rattle.std.proofs.Common.{◌≡◌, ◌&&◌, true, false, Bool, ℕ, suc, cond, List, [], ◌∷◌, length, take, Option, Some, None, refl, arith}
+use Rattle.std.proofs.Common.{◌≡◌, true, false, Bool, ℕ, suc, cond, List, [], ◌∷◌, length, take, Option, Some, None, refl, arith}
 use Rattle.std.specs.Prelude.{nat_le, nat_lt}
 use Rattle.std.specs.Option.{option_map}
 use Rattle.std.proofs.lemmas.Bool.Decides.{nat_tests}
+use Rattle.std.proofs.lemmas.Bool.{and_from}
 use Rattle.tptp_lex.specs.declared.signs.Sign.TheVariants.{Open, Close, OpenList, CloseList, Comma, And, Or, Not, Implies, If, Iff, Xor, NotAnd, NotOr, All, Exists, AllTypes}
 use Rattle.tptp_reader.specs.Tokens.{Token, sign}
 use Rattle.tptp_reader.specs.Brackets.{to_comma}
@@ -20,23 +21,18 @@ not_full count later true e h = absurd cc
 room_left : (count : ℕ) (later : Option ℕ) → unless_full 200 count later ≡ None → (nat_lt count 200 ≡ true) × (later ≡ None)
 room_left count later e = not_full count later (nat_le 200 count) refl e
 
-both : (a b : Bool) → a ≡ true → b ≡ true → (a && b) ≡ true
-both true true p q = refl
-both true false p q = q
-both false b p q = p
-
 abbrev state : ℕ → ℕ → List (ℕ × ℕ) → Nesting
 state count base outer = record { count = count; base = base; outer = outer }
 
 -- the same, with the parts of the state apart
 parts_within : (c b : ℕ) (outer : List (ℕ × ℕ)) (tokens : List Token) → nested 200 (state c b outer) (take (to_comma (length outer) tokens) tokens) ≡ None → within (state c b outer) tokens ≡ true
 parts_within c b outer [] e = refl
-parts_within c b outer (sign Open ∷ tokens) e = let h = room_left _ _ e in both _ _ h.0 (parts_within (suc c) (suc c) ((c, b) ∷ outer) tokens h.1)
-parts_within c b outer (sign OpenList ∷ tokens) e = let h = room_left _ _ e in both _ _ h.0 (parts_within (suc c) (suc c) ((c, b) ∷ outer) tokens h.1)
-parts_within c b outer (sign Not ∷ tokens) e = let h = room_left _ _ e in both _ _ h.0 (parts_within (suc c) b outer tokens h.1)
-parts_within c b outer (sign All ∷ tokens) e = let h = room_left _ _ e in both _ _ h.0 (parts_within (suc c) b outer tokens h.1)
-parts_within c b outer (sign Exists ∷ tokens) e = let h = room_left _ _ e in both _ _ h.0 (parts_within (suc c) b outer tokens h.1)
-parts_within c b outer (sign AllTypes ∷ tokens) e = let h = room_left _ _ e in both _ _ h.0 (parts_within (suc c) b outer tokens h.1)
+parts_within c b outer (sign Open ∷ tokens) e = let h = room_left _ _ e in and_from _ _ h.0 (parts_within (suc c) (suc c) ((c, b) ∷ outer) tokens h.1)
+parts_within c b outer (sign OpenList ∷ tokens) e = let h = room_left _ _ e in and_from _ _ h.0 (parts_within (suc c) (suc c) ((c, b) ∷ outer) tokens h.1)
+parts_within c b outer (sign Not ∷ tokens) e = let h = room_left _ _ e in and_from _ _ h.0 (parts_within (suc c) b outer tokens h.1)
+parts_within c b outer (sign All ∷ tokens) e = let h = room_left _ _ e in and_from _ _ h.0 (parts_within (suc c) b outer tokens h.1)
+parts_within c b outer (sign Exists ∷ tokens) e = let h = room_left _ _ e in and_from _ _ h.0 (parts_within (suc c) b outer tokens h.1)
+parts_within c b outer (sign AllTypes ∷ tokens) e = let h = room_left _ _ e in and_from _ _ h.0 (parts_within (suc c) b outer tokens h.1)
 parts_within c b outer (sign And ∷ tokens) e = parts_within b b outer tokens (no_later _ e)
 parts_within c b outer (sign Or ∷ tokens) e = parts_within b b outer tokens (no_later _ e)
 parts_within c b outer (sign Implies ∷ tokens) e = parts_within b b outer tokens (no_later _ e)

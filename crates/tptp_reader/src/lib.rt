@@ -36,14 +36,3 @@ pub use text::Text;
 pub use tree::{
     RawForm, RawRole, RawTerm, RawTerms, RawTop, RawType, RawTypes, RawVar, RawVars, Texts,
 };
-
-#[cfg(test)]
-mod parser_tests;
-#[cfg(test)]
-mod size_tests;
-#[cfg(test)]
-mod statement_tests;
-#[cfg(test)]
-mod tree_tests;
-#[cfg(test)]
-mod verdict_tests;

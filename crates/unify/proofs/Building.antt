@@ -2,6 +2,7 @@
 use Rattle.std.proofs.Common.{ℕ, zero, suc, ◌≡◌, ◌≢◌, ◌+◌, ◌<◌, ◌≤◌, nat_eq, cond, Some, inl, inr, List, [], ◌∷◌, ◌++◌, All, length, get_or, take, refl, ap, sym, subst, ◌∙◌, arith}
 use Rattle.std.proofs.lemmas.List.{take_more}
 use Rattle.std.proofs.lemmas.Bool.Decides.{eqb_tells}
+use Rattle.std.proofs.lemmas.List.Elements.{All-head, All-tail}
 use Rattle.indexmap.specs.IndexMap.{IndexMap, get}
 use Rattle.zm_logic.specs.Tree.{Ty, Tys, Term, Terms}
 use Rattle.zm_logic.specs.Measure.{type_depth, types_depth, term_depth, terms_depth}
@@ -24,7 +25,6 @@ use Rattle.unify.proofs.Total.{solved_bound, solved_param, solved_bound_term, so
 use Rattle.unify.proofs.Unifier.{put_unifier_type, put_unifier_types, put_unifier_term, put_unifier_terms}
 use Rattle.unify.proofs.HeadSteps.{id_of}
 use Rattle.unify.proofs.TermWalk.{term_id}
-use Rattle.unify.proofs.StateFacts.{all_first, all_rest}
 
 module _ (s t : Tables) (x : Extends s t) where
   has_kept : (b : Binding) → HasBinding s b → HasBinding t b
@@ -38,8 +38,8 @@ module _ (s t : Tables) (x : Extends s t) where
   latest_kept_on : (before : List trees.Binding) (made : List Binding) → All (HasBinding s) made → latest_on t before made ≡ latest_on s before made
   latest_kept_on before [] h = refl
   latest_kept_on before (b ∷ bs) h =
-      ap (λ c. latest_on t (c ∷ before) bs) (same_binding b (all_first (HasBinding s) b bs h))
-      ∙ latest_kept_on (binding_of s b ∷ before) bs (all_rest (HasBinding s) b bs h)
+      ap (λ c. latest_on t (c ∷ before) bs) (same_binding b (All-head (HasBinding s) b bs h))
+      ∙ latest_kept_on (binding_of s b ∷ before) bs (All-tail (HasBinding s) b bs h)
 
   -- the bindings stay
   pub latest_kept : (made : List Binding) → All (HasBinding s) made → latest t made ≡ latest s made

@@ -1,5 +1,5 @@
 -- The tasks for the parts of two formulas.
-use Rattle.std.proofs.Common.{ℕ, ◌≡◌, ◌≤◌, Bool, true, false, Result, Ok, Err, IfOk, List, [], ◌∷◌, ◌++◌, length, refl, ap, sym, subst, ◌∙◌, arith}
+use Rattle.std.proofs.Common.{ℕ, ◌≡◌, ◌≤◌, Bool, true, false, List, [], ◌∷◌, ◌++◌, length, refl, ap, sym, subst, ◌∙◌, arith}
 use Rattle.zm_logic.specs.Tree.{Form}
 use Rattle.zm_logic.specs.Measure.{depth}
 use Rattle.term_store.specs.Node.{types_at, terms_at, TypesBelow, TermsBelow}
@@ -16,10 +16,6 @@ use Rattle.unify.proofs.TaskLists.{pending_more, marks_more}
 use Rattle.unify.proofs.Waiting.{each_both}
 use Rattle.unify.proofs.TypeSteps.{type_parts_of, type_tasks_marks, type_parts_lengths, type_tasks_have, sides_of}
 use Rattle.unify.proofs.TermSteps.{term_parts_of, term_tasks_marks, term_parts_lengths, term_tasks_have}
-
-pub if_ok : {X E : Type 0} (P Q : X → Type 0) → ((x : X) → P x → Q x) → (answer : Result X E) → IfOk answer P → IfOk answer Q
-if_ok P Q to (Ok x) h = to x h
-if_ok P Q to (Err e) h = tt
 
 -- what is pushed for two formulas
 abbrev pub Pushed : Tables → Form → Form → List Task → Type 0

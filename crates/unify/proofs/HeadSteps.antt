@@ -1,8 +1,9 @@
 -- Heads of ids, one binding further.
-use Rattle.std.proofs.Common.{ℕ, ◌≡◌, ◌≢◌, ◌+◌, ◌<◌, ◌==◌, true, false, inl, inr, All, List, [], ◌∷◌, ◌++◌, length, get_or, take, drop, refl, ap, sym, subst, ◌∙◌}
+use Rattle.std.proofs.Common.{ℕ, ◌≡◌, ◌≢◌, ◌+◌, ◌<◌, true, false, inl, inr, All, List, [], ◌∷◌, ◌++◌, length, get_or, take, drop, refl, ap, sym, subst, ◌∙◌}
 use Rattle.std.proofs.lemmas.List.{take_more, take-append-drop}
 use Rattle.std.proofs.lemmas.List.Elements.{All-get_or}
 use Rattle.std.proofs.lemmas.Bool.Decides.{eqb_tells}
+use Rattle.term_store.proofs.Told.{types_told}
 use Rattle.zm_logic.specs.Tree.{Ty, Term}
 use Rattle.zm_logic.specs.Same.{same_type}
 use Rattle.term_store.specs.Trees.{Tables, HasType, HasTerm, type_of, term_of, AreShared}
@@ -16,14 +17,6 @@ use Rattle.unify.proofs.Same.{same_type_tells}
 
 abbrev pub id_of : ℕ → TyId
 id_of n = record { 0 = n }
-
--- one id, or types that differ
-pub ids_tell : (s : Tables) → AreShared s → (i j : TyId) → HasType s i → HasType s j → (i.0 == j.0) ≡ same_type (type_of s i) (type_of s j)
-ids_tell s h i j a b =
-    elim (eqb_tells i.0 j.0) [
-      | inl x ↦ (let e : i ≡ j = ap (λ (n : ℕ). id_of n) x.1 in elim (same_type_tells (type_of s i) (type_of s j)) [ inl y ↦ x.0 ∙ sym y.0 | inr y ↦ absurd (y.1 (ap (type_of s) e)) ])
-      | inr x ↦ elim (same_type_tells (type_of s i) (type_of s j)) [ inl y ↦ (let e = h.types i j a b y.1 in absurd (x.1 (cc))) | inr y ↦ x.0 ∙ sym y.0 ]
-    ]
 
 -- what stands for a side, where one binding is put in at its head
 abbrev past_type : trees.Binding → Ty → Ty
@@ -116,7 +109,7 @@ past_term_not_given s (OfTerm m j u) n k sh hb hk h =
     past_meta_no (Term.meta n (type_of s k)) (term_of s u) n m (type_of s k) (type_of s j) refl
     (λ e. elim (eqb_tells k.0 j.0) [
       | inl x ↦ (let f : k ≡ j = ap (λ (i : ℕ). id_of i) x.1 in absurd (h u (ap (λ (i : ℕ). OfTerm i j u) (sym e) ∙ ap (λ (i : TyId). OfTerm n i u) (sym f))))
-      | inr x ↦ sym (ids_tell s sh k j hk hb.0) ∙ x.0
+      | inr x ↦ sym (types_told s sh k j hk hb.0) ∙ x.0
     ])
 
 -- a tree that is no metavariable stays as it is past a binding, and past all later ones

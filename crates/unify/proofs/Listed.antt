@@ -1,7 +1,7 @@
 -- The bindings of the answer so far, and the first that is too deep.
 use Rattle.std.proofs.Common.{ℕ, ◌≡◌, ◌+◌, ◌<◌, ◌≤◌, List, [], ◌∷◌, ◌++◌, All, map, reverse, length, get_or, take, drop, nat_eq, Option, Some, None, Result, Ok, Err, IfOk, IfNone, refl, ap, sym, subst, ◌∙◌, drop-cons, add-one, arith}
 use Rattle.std.proofs.lemmas.List.{take_more, take_all, take-append-drop, map-append}
-use Rattle.std.proofs.lemmas.List.Elements.{All-push}
+use Rattle.std.proofs.lemmas.List.Elements.{All-push, All-head, All-tail}
 use Rattle.std.specs.Map.{lookup}
 use Rattle.term_store.specs.Trees.{Tables, HasTerm, term_of, Extends}
 use Rattle.term_store.specs.declared.ids.TermId.{TermId}
@@ -18,14 +18,13 @@ use Rattle.unify.specs.declared.binding.Binding.{Binding}
 use Rattle.unify.specs.declared.binding.Binding.TheVariants.{OfTerm, OfType}
 use Rattle.unify.proofs.Building.{same_binding, latest_kept}
 use Rattle.unify.proofs.Finish.{in_order}
-use Rattle.unify.proofs.StateFacts.{all_first, all_rest}
 
 module _ (s t : Tables) (x : Extends s t) where
-  ids_kept : (b : Binding) → HasIds s b → HasIds t b
+  pub ids_kept : (b : Binding) → HasIds s b → HasIds t b
   ids_kept (OfTerm m k u) h = (still_type s t x k h.0, still_term s t x u h.1)
   ids_kept (OfType m k) h = still_type s t x k h
 
-  same_ids : (b : Binding) → HasIds s b → binding_of t b ≡ binding_of s b
+  pub same_ids : (b : Binding) → HasIds s b → binding_of t b ≡ binding_of s b
   same_ids (OfTerm m k u) h = let e = kept_type s t x k h.0 in let f = kept_term s t x u h.1 in cc
   same_ids (OfType m k) h = ap (trees.Binding.of_type m) (kept_type s t x k h)
 
@@ -35,7 +34,7 @@ module _ (s t : Tables) (x : Extends s t) where
   all_same : (bs : List Binding) → All (HasIds s) bs → map (binding_of t) bs ≡ map (binding_of s) bs
   all_same [] h = refl
   all_same (b ∷ bs) h =
-      ap (λ c. c ∷ map (binding_of t) bs) (same_ids b (all_first (HasIds s) b bs h)) ∙ ap (λ cs. binding_of s b ∷ cs) (all_same bs (all_rest (HasIds s) b bs h))
+      ap (λ c. c ∷ map (binding_of t) bs) (same_ids b (All-head (HasIds s) b bs h)) ∙ ap (λ cs. binding_of s b ∷ cs) (all_same bs (All-tail (HasIds s) b bs h))
 
 module _ (s : Tables) (made : List Binding) where
   -- the bindings before the index, as they were made

@@ -1,5 +1,6 @@
 -- What a state tells of the task that is taken.
-use Rattle.std.proofs.Common.{suc, ◌≡◌, ◌<◌, List, [], ◌∷◌, ◌++◌, All, sym, subst, arith}
+use Rattle.std.proofs.Common.{◌≡◌, ◌<◌, List, [], ◌∷◌, ◌++◌, All, sym, subst}
+use Rattle.std.proofs.lemmas.List.Elements.{All-head, All-tail}
 use Rattle.zm_logic.specs.Tree.{Ty, Term}
 use Rattle.zm_logic.specs.Measure.{type_depth}
 use Rattle.term_store.specs.Trees.{Tables, HasType, type_of}
@@ -19,12 +20,6 @@ use Rattle.unify.proofs.Waiting.{each_last}
 pub task_has : (s : Tables) (made : List Binding) (known : Known) (rest : List Task) (task : Task) → IsState s made known (rest ++ task ∷ []) → HasTask s task
 task_has s made known rest task l = (each_last (HasTask s) rest (task ∷ []) l.tasks).0
 
-pub all_first : {X : Type 0} (P : X → Type 0) (x : X) (xs : List X) → All P (x ∷ xs) → P x
-all_first P x xs h = h 0 x (omega arith)
-
-pub all_rest : {X : Type 0} (P : X → Type 0) (x : X) (xs : List X) → All P (x ∷ xs) → All P xs
-all_rest P x xs h = λ k d l. h (suc k) d (omega (arith, l))
-
 -- types in right sides are no deeper than those of the equations
 abbrev Shallow : Ty → Type 0
 Shallow t = type_depth t < 2000
@@ -34,7 +29,7 @@ Any u = Unit {0}
 
 sides_on : (s : Tables) (before : List trees.Binding) (made : List Binding) → RightSides Shallow Any before → All (HasBinding s) made → RightSides Shallow Any (latest_on s before made)
 sides_on s before [] r h = r
-sides_on s before (b ∷ bs) r h = sides_on s (binding_of s b ∷ before) bs (one b (all_first (HasBinding s) b bs h)) (all_rest (HasBinding s) b bs h)
+sides_on s before (b ∷ bs) r h = sides_on s (binding_of s b ∷ before) bs (one b (All-head (HasBinding s) b bs h)) (All-tail (HasBinding s) b bs h)
   where
     one : (c : Binding) → HasBinding s c → RightSides Shallow Any (binding_of s c ∷ before)
     one (OfTerm m t u) k = (tt, r)

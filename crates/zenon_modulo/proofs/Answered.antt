@@ -1,13 +1,11 @@
 -- What is answered at each exit of a call is an answer, and its text goes with it.
-use Rattle.std.proofs.Common.{ℕ, ◌≡◌, ◌≢◌, ◌≤◌, ◌+◌, false, List, [], ◌∷◌, codes, length, take, Option, Some, None, IfSome, All, inl, inr, refl, sym, subst, arith}
-use Rattle.zm_base.specs.Outside.{Rose, AtEnd, ReadsAtMost}
+use Rattle.std.proofs.Common.{ℕ, ◌≡◌, ◌≤◌, ◌+◌, List, [], ◌∷◌, codes, Option, Some, None, IfSome, All, inl, inr, refl, sym, subst, arith}
+use Rattle.zm_base.specs.Outside.{Rose, ReadsAtMost}
 use Rattle.zm_base.specs.Library.{NamedFile, file_of}
 use Rattle.zm_logic.specs.Tree.{Form, Problem}
 use Rattle.zm_logic.specs.Problem.{IsTypedProblem}
 use Rattle.branch.specs.Tableau.{picks}
-use Rattle.tptp_include.specs.Gathering.{Refusal}
 use Rattle.tptp_include.specs.declared.refusal.GatherRefusal.{GatherRefusal}
-use Rattle.tptp_include.specs.declared.refusal.GatherRefusal.TheVariants as gather
 use Rattle.tff_typing.specs.declared.typed.TypeRefusal.{TypeRefusal}
 use Rattle.zenon_modulo.specs.declared.outcome.Outcome.{Outcome}
 use Rattle.zenon_modulo.specs.declared.outcome.Outcome.TheVariants.{Proved, Falsified, Unknown, Refused, Usage, ReadFault, LibraryFault, WriteFault, Memory}
@@ -17,17 +15,14 @@ use Rattle.zenon_modulo.specs.declared.words.UsageRefusal.{UsageRefusal}
 use Rattle.zenon_modulo.specs.Words.{Word, Operand, Command, IsCommand, IsMisuse}
 use Rattle.zenon_modulo.specs.WordsRead.{misuse_of}
 use Rattle.zenon_modulo.specs.Outcome.{IfSearched}
-use Rattle.zenon_modulo.specs.Input.{Name, name_of, input_limit, IfTold, IsGatheredFrom, Makes, IsText, Spells, IsProblem, Ungathered, HasTooMany, Explains, IsTaken, IsCut}
-use Rattle.zenon_modulo.specs.Answer.{ForProblem, ForOperand, IsRefused, Call, IsAnswer}
+use Rattle.zenon_modulo.specs.Input.{name_of, input_limit, IfTold, Makes, IsText, Spells, IsProblem, Ungathered, HasTooMany, Explains, IsTaken, IsCut}
+use Rattle.zenon_modulo.specs.Answer.{ForProblem, ForOperand, Call, IsAnswer}
 use Rattle.zenon_modulo.specs.Writing.{IsTextOf}
-use Rattle.zenon_modulo.specs.Report.{Reports, IsReport, IsReportOf, ExplainsText, AnswersText, IsRefusedOr, IsOperandRead}
+use Rattle.zenon_modulo.specs.Report.{Reports, ExplainsText, AnswersText, IsRefusedOr, IsOperandRead}
 
 -- a problem, for answers that rest on none
 abbrev nothing : Problem
 nothing = record { symbols = []; premises = []; conjecture = Form.falsity }
-
-some_same : (a b : List ℕ) → Some a ≡ Some b → a ≡ b
-some_same a b e = cc
 
 pub some_word : (words : List Word) (command : Command) → IsCommand words command → words ≡ [] → ⊥
 some_word words command (IsCommand.prove {word = word} {options = options} o a) e = filled (codes "prove") (word ∷ options) e

@@ -1,7 +1,7 @@
 -- What the first bytes of a file say of the file.
-use Rattle.std.proofs.Common.{ℕ, ◌≡◌, ◌+◌, ◌<◌, ◌≤◌, List, length, take, Option, Some, None, Result, Ok, Err, Vec, IfSome, zero, suc, [], ◌∷◌, min, refl, sym, arith, ap, subst, ◌∙◌}
+use Rattle.std.proofs.Common.{ℕ, ◌≡◌, ◌+◌, ◌<◌, ◌≤◌, List, length, take, Option, Some, None, Result, Ok, Err, Vec, IfSome, refl, sym, arith, ap, subst, ◌∙◌}
 use Rattle.std.specs.Option.{option_map}
-use Rattle.std.proofs.lemmas.List.{length-take}
+use Rattle.std.proofs.lemmas.List.{length-take, take_all}
 use Rattle.zm_base.specs.Library.{NamedFile, file_of, front_of}
 use Rattle.std.specs.declared.alloc.Global.{Global}
 use Rattle.zenon_modulo.specs.declared.answer.FileStop.{FileStop}
@@ -26,12 +26,6 @@ none_front n (Some f) e = absurd (some (take n f) e)
   where
     some : (b : List ℕ) → None ≡ Some b → ⊥
     some b h = cc
-
-take_all : (n : ℕ) (xs : List ℕ) → length xs ≤ n → take n xs ≡ xs
-take_all zero [] h = refl
-take_all (suc n) [] h = refl
-take_all zero (x ∷ xs) h = absurd (omega arith)
-take_all (suc n) (x ∷ xs) h = ap (λ ys. x ∷ ys) (take_all n xs (omega arith))
 
 -- fewer bytes than were asked for are all of the file
 short_front : (n : ℕ) (f bytes : List ℕ) → bytes ≡ take n f → length bytes < n → bytes ≡ f

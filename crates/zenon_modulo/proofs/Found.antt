@@ -1,13 +1,14 @@
 -- What follows from what a search found.
 use Rattle.std.proofs.Common.{ℕ, ◌≡◌, ◌≢◌, true, false, List, [], Some, Vec, refl, sym, ap, ap₂, subst, ◌∙◌}
 use Rattle.std.specs.declared.alloc.Global.{Global}
+use Rattle.std.proofs.lemmas.Option.{same_Some}
 use Rattle.zm_logic.specs.Tree.{Form, Symbol, Problem}
 use Rattle.zm_logic.specs.Problem.{IsTypedProblem}
 use Rattle.zm_logic.specs.Truth.{Valued, Falsifies, refuted}
 use Rattle.param_store.specs.View.{forms_of}
 use Rattle.branch.specs.Branch.{extend}
 use Rattle.branch.specs.Setting.{Setting}
-use Rattle.branch.specs.Tableau.{Node, Leaf, IsTableau, is_finished, current_leaf}
+use Rattle.branch.specs.Tableau.{Node, IsTableau, is_finished, current_leaf}
 use Rattle.branch.specs.Stopping.{IsRoot, Cause, Stopped}
 use Rattle.branch.specs.State as state
 use Rattle.branch.specs.State.{State, tree}
@@ -32,9 +33,6 @@ use Rattle.zenon_modulo.proofs.PlainProblems.{plain_refuted}
 
 abbrev setting_of : List Symbol → ℕ → Setting
 setting_of symbols rewrites = record { symbols = symbols; rules = []; rewrites = rewrites; prunes = false }
-
-leaf_is : (x y : Leaf) → Some x ≡ Some y → x ≡ y
-leaf_is x y e = cc
 
 -- a tree that is stopped has an Open leaf
 stays_open : (s : Setting) (given : List Form) (budget : ℕ) (n : Node) (why : Cause) → Stopped s given budget n why → is_finished n ≡ false
@@ -123,7 +121,7 @@ module _ (p : Problem) (steps : ℕ) where
       let f = saturated_tableaux_falsify p (setting p) (root p) steps (tree t) s.typed (plain_refuted p q) refl (is_root t s.grown)
       (grown_tableau t s.grown) s.stopped in
       let e : current_leaf (root p) (tree t) ≡ Some a.leaf = ap (λ b. current_leaf b (tree t)) (sym (same_root t s.grown)) ∙ a.is_current in
-      let same : a.leaf ≡ f.leaf = leaf_is a.leaf f.leaf (sym e ∙ f.is_current) in
+      let same : a.leaf ≡ f.leaf = same_Some a.leaf f.leaf (sym e ∙ f.is_current) in
       record {
         built = s.built;
         quantifier_free = q;

@@ -1,12 +1,13 @@
 -- Words are one command at most, or one thing is the first that is wrong with them; and a text spells one problem at most.
-use Rattle.std.proofs.Common.{ℕ, ◌≡◌, ◌≢◌, List, [], ◌∷◌, map, codes, get_or, Option, Some, None, refl, sym, ap₂, subst, ◌∙◌, arith}
+use Rattle.std.proofs.Common.{ℕ, ◌≡◌, List, map, Option, Some, None, refl, sym, ap₂, subst, ◌∙◌}
+use Rattle.std.proofs.lemmas.Option.{same_Some}
 use Rattle.zm_base.specs.Library.{NamedFile}
 use Rattle.zm_logic.specs.Tree.{Problem}
 use Rattle.tptp_include.specs.Gathering.{Placed, Outcome, GathersAll}
 use Rattle.tptp_reader.specs.Raw.{RawStatement}
 use Rattle.tff_typing.specs.Rules.{MakeProblem}
-use Rattle.zenon_modulo.specs.Words.{Word, Operand, Command, Misuse, IsOperand, IsNumber, AllowsSteps, AreOptions, IsCommand, IsMisuse, steps_text}
-use Rattle.zenon_modulo.specs.Input.{Name, name_of, Makes, IsText, Spells}
+use Rattle.zenon_modulo.specs.Words.{Word, Operand, Command, Misuse, IsOperand, AllowsSteps, IsCommand, IsMisuse, steps_text}
+use Rattle.zenon_modulo.specs.Input.{Name, name_of, Makes, Spells}
 
 one_operand : (word : Word) (a b : Operand) → IsOperand word a → IsOperand word b → a ≡ b
 one_operand word a b IsOperand.hyphen IsOperand.hyphen = refl
@@ -56,10 +57,7 @@ module _ (one : (files : List NamedFile) (name : Name) (bytes : List ℕ) (a b :
       let lists = same_list m.list n.list m.gathered.count n.gathered.count (one files name bytes _ _ m.gathered.gathered n.gathered.gathered) in
       typed (map (λ s. s.statement) n.list) p q (subst (λ (l : List Placed). MakeProblem (map (λ s. s.statement) l) p) lists m.typed) n.typed
 
-  some_same : (a b : List ℕ) → Some a ≡ Some b → a ≡ b
-  some_same a b e = cc
-
   pub one_problem : (operand : Operand) (files : List NamedFile) (text : Option (List ℕ)) (p q : Problem) → Spells operand files text p → Spells operand files text q → p ≡ q
   one_problem operand files text p q s t =
-      let bytes = some_same s.bytes t.bytes (sym s.is_text.is_there ∙ t.is_text.is_there) in
+      let bytes = same_Some s.bytes t.bytes (sym s.is_text.is_there ∙ t.is_text.is_there) in
       one_made files (name_of operand) t.bytes p q (subst (λ b. Makes files (name_of operand) b p) bytes s.makes) t.makes

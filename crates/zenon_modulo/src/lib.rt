@@ -11,8 +11,6 @@ mod options;
 mod outcome;
 mod report;
 mod status;
-#[cfg(test)]
-mod tests;
 mod text;
 mod top;
 mod words;

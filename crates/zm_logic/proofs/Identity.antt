@@ -17,7 +17,7 @@ mutual
   no_terms_step (TermsStep.first h) = no_term_step h
   no_terms_step (TermsStep.later h) = no_terms_step h
 
-no_step : {f g : Form} → Step [] f g → ⊥
+pub no_step : {f g : Form} → Step [] f g → ⊥
 no_step (Step.here h) = no_rule h
 no_step (Step.atom h) = no_terms_step h
 no_step (Step.equal_left h) = no_term_step h

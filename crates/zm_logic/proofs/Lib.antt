@@ -5,7 +5,9 @@ pub mod Each
 pub mod Opened
 pub mod Substitution
 pub mod Typed
+pub mod Inverted
 pub mod Instance
+pub mod TypeInstances
 pub mod ClosedForm
 pub mod Renaming
 pub mod Weakening

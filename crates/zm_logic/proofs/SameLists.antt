@@ -1,20 +1,11 @@
 -- The test of sameness on lists, from one place on.
-use Rattle.std.proofs.Common.{ℕ, zero, suc, ◌≡◌, ◌+◌, ◌<◌, ◌≤◌, Bool, true, false, ◌&&◌, List, [], ◌∷◌, length, get_or, drop, refl, arith, ap, ◌∙◌}
-use Rattle.std.proofs.lemmas.List.{drop_more}
+use Rattle.std.proofs.Common.{ℕ, suc, ◌≡◌, ◌+◌, ◌<◌, ◌≤◌, true, false, ◌&&◌, List, [], ◌∷◌, length, get_or, drop, refl, ap, ◌∙◌}
+use Rattle.std.proofs.lemmas.List.{drop_more, drop_all}
+use Rattle.std.proofs.lemmas.Bool.{and_right}
 use Rattle.zm_logic.specs.declared.tree.Ty.{Ty}
 use Rattle.zm_logic.specs.declared.tree.Term.{Term}
 use Rattle.zm_logic.specs.View.{type_tree, types_tree, term_tree, terms_tree}
 use Rattle.zm_logic.specs.Same.{same_type, same_types, same_term, same_terms}
-
-and_false : (b : Bool) → (b && false) ≡ false
-and_false true = refl
-and_false false = refl
-
-drop_all : {X : Type 0} (i : ℕ) (xs : List X) → length xs ≤ i → drop i xs ≡ []
-drop_all zero [] h = refl
-drop_all zero (x ∷ xs) h = absurd (omega arith)
-drop_all (suc i) [] h = refl
-drop_all (suc i) (x ∷ xs) h = drop_all i xs (omega arith)
 
 types_step : (xs ys : List Ty) (i : ℕ) (d e : Ty) → i < length xs → i < length ys
     → same_types (types_tree (drop i xs)) (types_tree (drop i ys))
@@ -39,7 +30,7 @@ types_unequal [] (y ∷ ys) h = refl
 types_unequal (x ∷ xs) [] h = refl
 types_unequal (x ∷ xs) (y ∷ ys) h =
     ap (λ b. same_type (type_tree x) (type_tree y) && b) (types_unequal xs ys (λ e. h (ap suc e)))
-    ∙ and_false (same_type (type_tree x) (type_tree y))
+    ∙ (and_right (same_type (type_tree x) (type_tree y)) false refl)
 
 pub types_end : (xs ys : List Ty) (i : ℕ) → length xs ≤ i → length ys ≤ i → same_types (types_tree (drop i xs)) (types_tree (drop i ys)) ≡ true
 types_end xs ys i h k = rw (drop_all i xs h, drop_all i ys k)
@@ -67,7 +58,7 @@ terms_unequal [] (y ∷ ys) h = refl
 terms_unequal (x ∷ xs) [] h = refl
 terms_unequal (x ∷ xs) (y ∷ ys) h =
     ap (λ b. same_term (term_tree x) (term_tree y) && b) (terms_unequal xs ys (λ e. h (ap suc e)))
-    ∙ and_false (same_term (term_tree x) (term_tree y))
+    ∙ (and_right (same_term (term_tree x) (term_tree y)) false refl)
 
 pub terms_end : (xs ys : List Term) (i : ℕ) → length xs ≤ i → length ys ≤ i → same_terms (terms_tree (drop i xs)) (terms_tree (drop i ys)) ≡ true
 terms_end xs ys i h k = rw (drop_all i xs h, drop_all i ys k)

@@ -1,54 +1,32 @@
 -- The test of sameness decides equality.
-use Rattle.std.proofs.Common.{◌≡◌, Bool, true, false, ◌&&◌, ◌||◌, refl, ap, List, [], ◌∷◌, ◌⊎◌, inl, inr, Contains, arith}
-use Rattle.std.proofs.lemmas.Bool.{eqb-true, eq-eqb}
+use Rattle.std.proofs.Common.{◌≡◌, true, ◌&&◌, refl, ap, List, [], ◌∷◌, ◌⊎◌, inl, inr, Contains, arith}
+use Rattle.std.proofs.lemmas.Bool.{eqb-true, eq-eqb, and_parts, and_from, or_cases, or_left, or_right}
 use Rattle.std.proofs.lemmas.List.Elements.{Contains-append_left, Contains-append_right, Contains-append_cases, Contains-push, Contains-push_cases}
 use Rattle.zm_logic.specs.Tree.{Ty, Tys, Term, Terms, Form, Connective, Quantifier}
 use Rattle.zm_logic.specs.Laws as laws
 use Rattle.zm_logic.specs.Same.{same_connective, same_quantifier, same_type, same_types, same_term, same_terms, same, has}
-
-pub both_true : (a b : Bool) → (a && b) ≡ true → (a ≡ true) × (b ≡ true)
-both_true true true h = (refl, refl)
-both_true true false h = cc
-both_true false b h = cc
-
-pub and_true : (a b : Bool) → a ≡ true → b ≡ true → (a && b) ≡ true
-and_true true true h k = refl
-and_true true false h k = k
-and_true false b h k = h
-
-pub either_true : (a b : Bool) → (a || b) ≡ true → (a ≡ true) ⊎ (b ≡ true)
-either_true true b h = inl refl
-either_true false b h = inr h
-
-pub or_left : (a b : Bool) → a ≡ true → (a || b) ≡ true
-or_left true b h = refl
-or_left false b h = cc
-
-pub or_right : (a b : Bool) → b ≡ true → (a || b) ≡ true
-or_right true b h = refl
-or_right false b h = h
 
 mutual
   pub same_type-self : (t : Ty) → same_type t t ≡ true
   same_type-self (Ty.bound n) = eq-eqb n n refl
   same_type-self (Ty.param n) = eq-eqb n n refl
   same_type-self (Ty.meta n) = eq-eqb n n refl
-  same_type-self (Ty.con n ts) = and_true _ _ (eq-eqb n n refl) (same_types-self ts)
+  same_type-self (Ty.con n ts) = and_from _ _ (eq-eqb n n refl) (same_types-self ts)
 
   pub same_types-self : (ts : Tys) → same_types ts ts ≡ true
   same_types-self Tys.none = refl
-  same_types-self (Tys.more t ts) = and_true _ _ (same_type-self t) (same_types-self ts)
+  same_types-self (Tys.more t ts) = and_from _ _ (same_type-self t) (same_types-self ts)
 
 mutual
   pub same_term-self : (t : Term) → same_term t t ≡ true
   same_term-self (Term.bound n) = eq-eqb n n refl
-  same_term-self (Term.eps n t) = and_true _ _ (eq-eqb n n refl) (same_type-self t)
-  same_term-self (Term.meta n t) = and_true _ _ (eq-eqb n n refl) (same_type-self t)
-  same_term-self (Term.app n ts xs) = and_true _ _ (eq-eqb n n refl) (and_true _ _ (same_types-self ts) (same_terms-self xs))
+  same_term-self (Term.eps n t) = and_from _ _ (eq-eqb n n refl) (same_type-self t)
+  same_term-self (Term.meta n t) = and_from _ _ (eq-eqb n n refl) (same_type-self t)
+  same_term-self (Term.app n ts xs) = and_from _ _ (eq-eqb n n refl) (and_from _ _ (same_types-self ts) (same_terms-self xs))
 
   pub same_terms-self : (ts : Terms) → same_terms ts ts ≡ true
   same_terms-self Terms.none = refl
-  same_terms-self (Terms.more t ts) = and_true _ _ (same_term-self t) (same_terms-self ts)
+  same_terms-self (Terms.more t ts) = and_from _ _ (same_term-self t) (same_terms-self ts)
 
 pub same_connective-self : (c : Connective) → same_connective c c ≡ true
 same_connective-self Connective.conjunction = refl
@@ -75,11 +53,11 @@ same_quantifier-true p q h = cc
 pub same-self : (f : Form) → same f f ≡ true
 same-self Form.truth = refl
 same-self Form.falsity = refl
-same-self (Form.atom n ts xs) = and_true _ _ (eq-eqb n n refl) (and_true _ _ (same_types-self ts) (same_terms-self xs))
-same-self (Form.equal t a b) = and_true _ _ (same_type-self t) (and_true _ _ (same_term-self a) (same_term-self b))
+same-self (Form.atom n ts xs) = and_from _ _ (eq-eqb n n refl) (and_from _ _ (same_types-self ts) (same_terms-self xs))
+same-self (Form.equal t a b) = and_from _ _ (same_type-self t) (and_from _ _ (same_term-self a) (same_term-self b))
 same-self (Form.negation f) = same-self f
-same-self (Form.binary c f g) = and_true _ _ (same_connective-self c) (and_true _ _ (same-self f) (same-self g))
-same-self (Form.quantified q t f) = and_true _ _ (same_quantifier-self q) (and_true _ _ (same_type-self t) (same-self f))
+same-self (Form.binary c f g) = and_from _ _ (same_connective-self c) (and_from _ _ (same-self f) (same-self g))
+same-self (Form.quantified q t f) = and_from _ _ (same_quantifier-self q) (and_from _ _ (same_type-self t) (same-self f))
 same-self (Form.for_all_types f) = same-self f
 
 mutual
@@ -88,48 +66,48 @@ mutual
   same_type-true (Ty.param m) (Ty.param n) h = ap Ty.param (eqb-true m n h)
   same_type-true (Ty.meta m) (Ty.meta n) h = ap Ty.meta (eqb-true m n h)
   same_type-true (Ty.con m ts) (Ty.con n us) h =
-      let b = both_true _ _ h in let p = eqb-true m n b.0 in let q = same_types-true ts us b.1 in cc
+      let b = and_parts _ _ h in let p = eqb-true m n b.0 in let q = same_types-true ts us b.1 in cc
   same_type-true t u h = cc
 
   pub same_types-true : (ts us : Tys) → same_types ts us ≡ true → ts ≡ us
   same_types-true Tys.none Tys.none h = refl
   same_types-true (Tys.more t ts) (Tys.more u us) h =
-      let b = both_true _ _ h in let p = same_type-true t u b.0 in let q = same_types-true ts us b.1 in cc
+      let b = and_parts _ _ h in let p = same_type-true t u b.0 in let q = same_types-true ts us b.1 in cc
   same_types-true ts us h = cc
 
 mutual
   pub same_term-true : (t u : Term) → same_term t u ≡ true → t ≡ u
   same_term-true (Term.bound m) (Term.bound n) h = ap Term.bound (eqb-true m n h)
   same_term-true (Term.eps m t) (Term.eps n u) h =
-      let b = both_true _ _ h in let p = eqb-true m n b.0 in let q = same_type-true t u b.1 in cc
+      let b = and_parts _ _ h in let p = eqb-true m n b.0 in let q = same_type-true t u b.1 in cc
   same_term-true (Term.meta m t) (Term.meta n u) h =
-      let b = both_true _ _ h in let p = eqb-true m n b.0 in let q = same_type-true t u b.1 in cc
+      let b = and_parts _ _ h in let p = eqb-true m n b.0 in let q = same_type-true t u b.1 in cc
   same_term-true (Term.app m ts xs) (Term.app n us ys) h =
-      let b = both_true _ _ h in let d = both_true _ _ b.1 in
+      let b = and_parts _ _ h in let d = and_parts _ _ b.1 in
       let p = eqb-true m n b.0 in let q = same_types-true ts us d.0 in let r = same_terms-true xs ys d.1 in cc
   same_term-true t u h = cc
 
   pub same_terms-true : (ts us : Terms) → same_terms ts us ≡ true → ts ≡ us
   same_terms-true Terms.none Terms.none h = refl
   same_terms-true (Terms.more t ts) (Terms.more u us) h =
-      let b = both_true _ _ h in let p = same_term-true t u b.0 in let q = same_terms-true ts us b.1 in cc
+      let b = and_parts _ _ h in let p = same_term-true t u b.0 in let q = same_terms-true ts us b.1 in cc
   same_terms-true ts us h = cc
 
 pub same-true : (f g : Form) → same f g ≡ true → f ≡ g
 same-true Form.truth Form.truth h = refl
 same-true Form.falsity Form.falsity h = refl
 same-true (Form.atom m ts xs) (Form.atom n us ys) h =
-    let b = both_true _ _ h in let d = both_true _ _ b.1 in
+    let b = and_parts _ _ h in let d = and_parts _ _ b.1 in
     let p = eqb-true m n b.0 in let q = same_types-true ts us d.0 in let r = same_terms-true xs ys d.1 in cc
 same-true (Form.equal t a b) (Form.equal u c d) h =
-    let k = both_true _ _ h in let l = both_true _ _ k.1 in
+    let k = and_parts _ _ h in let l = and_parts _ _ k.1 in
     let p = same_type-true t u k.0 in let q = same_term-true a c l.0 in let r = same_term-true b d l.1 in cc
 same-true (Form.negation f) (Form.negation g) h = ap Form.negation (same-true f g h)
 same-true (Form.binary c f a) (Form.binary d g b) h =
-    let k = both_true (same_connective c d) (same f g && same a b) h in let l = both_true (same f g) (same a b) k.1 in
+    let k = and_parts (same_connective c d) (same f g && same a b) h in let l = and_parts (same f g) (same a b) k.1 in
     let o = same_connective-true c d k.0 in let p = same-true f g l.0 in let q = same-true a b l.1 in cc
 same-true (Form.quantified c t f) (Form.quantified d u g) h =
-    let k = both_true (same_quantifier c d) (same_type t u && same f g) h in let l = both_true (same_type t u) (same f g) k.1 in
+    let k = and_parts (same_quantifier c d) (same_type t u && same f g) h in let l = and_parts (same_type t u) (same f g) k.1 in
     let o = same_quantifier-true c d k.0 in let p = same_type-true t u l.0 in let q = same-true f g l.1 in cc
 same-true (Form.for_all_types f) (Form.for_all_types g) h = ap Form.for_all_types (same-true f g h)
 same-true f g h = cc
@@ -153,7 +131,7 @@ Contains-cases x xs y h =
 pub has-contains : (gs : List Form) (f : Form) → has gs f ≡ true → Contains gs f
 has-contains [] f h = cc
 has-contains (g ∷ gs) f h =
-    elim (either_true _ _ h) [ inl a ↦ let e = same-true g f a in rw e (Contains-here f gs) | inr a ↦ Contains-there g gs f (has-contains gs f a) ]
+    elim (or_cases _ _ h) [ inl a ↦ let e = same-true g f a in rw e (Contains-here f gs) | inr a ↦ Contains-there g gs f (has-contains gs f a) ]
 
 pub contains-has : (gs : List Form) (f : Form) → Contains gs f → has gs f ≡ true
 contains-has [] f h = absurd (Contains-none f h)

@@ -3,6 +3,7 @@
 use Rattle.std.proofs.Common.{◌≡◌, zero, suc, Bool, true, false, not, ◌&&◌, ◌||◌, cond, ◌⊎◌, inl, inr, refl, ap, sym, ◌∙◌, subst, arith, List, [], ◌∷◌, All, map}
 use Rattle.std.specs.List.{Contains}
 use Rattle.std.proofs.lemmas.List.Elements.{All-contains, All-append, All-map}
+use Rattle.std.proofs.lemmas.Bool.{and_parts, or_cases}
 use Rattle.zm_logic.specs.Tree.{Tys, Term, Terms, Form, Symbol, both, either, implies, iff, for_all, exists, differ}
 use Rattle.zm_logic.specs.Typing.{HaveTypes, argument_types}
 use Rattle.zm_logic.specs.Calculus.{Derives, DerivesEach, differ_each}
@@ -10,7 +11,7 @@ use Rattle.zm_logic.specs.Same.{same_term}
 use Rattle.zm_logic.specs.Truth.{IsQuantifierFree, IsTrueUnder, truth_of, value_of, connected, refuted}
 use Rattle.zm_logic.specs.Laws as laws
 use Rattle.zm_logic.specs.Laws.{HasNoQuantifier, truth_in_terms}
-use Rattle.zm_logic.proofs.Sames.{both_true, either_true, same_term-self, same_term-true, only, Contains-none}
+use Rattle.zm_logic.proofs.Sames.{same_term-self, same_term-true, only, Contains-none}
 use Rattle.zm_logic.proofs.Weakening.{first_or_later}
 use Rattle.zm_logic.proofs.Identity.{without_rules}
 
@@ -88,7 +89,7 @@ module _ (symbols : List Symbol) (v : Form → Bool) where
         sound (grow a s (x.0, twice (truth_in_terms v a) x.1) g) d
     sound g (Derives.conjunction {gamma = s} a b c d) =
         let x = g (both a b) c in
-        let y = both_true (truth_in_terms v a) (truth_in_terms v b) x.1 in
+        let y = and_parts (truth_in_terms v a) (truth_in_terms v b) x.1 in
         sound (grow a (b ∷ s) (x.0.0, y.0) (grow b s (x.0.1, y.1) g)) d
     sound g (Derives.not_or {gamma = s} a b c d) =
         let x = g (Form.negation (either a b)) c in
@@ -100,7 +101,7 @@ module _ (symbols : List Symbol) (v : Form → Bool) where
         sound (grow a (Form.negation b ∷ s) (x.0.0, y.0) (grow (Form.negation b) s (x.0.1, y.1) g)) d
     sound g (Derives.disjunction {gamma = s} a b c d e) =
         let x = g (either a b) c in
-        elim (either_true (truth_in_terms v a) (truth_in_terms v b) x.1) [
+        elim (or_cases (truth_in_terms v a) (truth_in_terms v b) x.1) [
           | inl y ↦ sound (grow a s (x.0.0, y) g) d
           | inr y ↦ sound (grow b s (x.0.1, y) g) e
         ]
@@ -112,7 +113,7 @@ module _ (symbols : List Symbol) (v : Form → Bool) where
         ]
     sound g (Derives.implication {gamma = s} a b c d e) =
         let x = g (implies a b) c in
-        elim (either_true (not (truth_in_terms v a)) (truth_in_terms v b) x.1) [
+        elim (or_cases (not (truth_in_terms v a)) (truth_in_terms v b) x.1) [
           | inl y ↦ sound (grow (Form.negation a) s (x.0.0, y) g) d
           | inr y ↦ sound (grow b s (x.0.1, y) g) e
         ]

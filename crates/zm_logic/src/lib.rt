@@ -10,8 +10,6 @@ mod opening;
 mod problem;
 mod rule;
 mod sameness;
-#[cfg(test)]
-mod tests;
 mod text;
 mod tree;
 

@@ -1,4 +1,4 @@
-use Rattle.branch.proofs.SharedIds.{forms_told}
+use Rattle.term_store.proofs.Told.{forms_told}
 use Rattle.branch.proofs.closing.same_form.Goals as goal
 
 pub returns : goal.returns

@@ -1,4 +1,4 @@
-use Rattle.branch.proofs.SharedIds.{terms_told}
+use Rattle.term_store.proofs.Told.{terms_told}
 use Rattle.branch.proofs.closing.same_side.Goals as goal
 
 pub returns : goal.returns

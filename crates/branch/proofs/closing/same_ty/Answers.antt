@@ -1,4 +1,4 @@
-use Rattle.branch.proofs.SharedIds.{types_told}
+use Rattle.term_store.proofs.Told.{types_told}
 use Rattle.branch.proofs.closing.same_ty.Goals as goal
 
 pub returns : goal.returns

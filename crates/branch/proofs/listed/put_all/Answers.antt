@@ -1,11 +1,11 @@
 use Rattle.std.proofs.Common.{◌≡◌, ◌+◌, List, [], ◌∷◌, ◌++◌, map, take, append_assoc, ap, sym, subst, ◌∙◌}
+use Rattle.std.proofs.lemmas.List.{take_all}
 use Rattle.param_store.specs.View.{forms_of, raw_of, HasRaw}
 use Rattle.param_store.specs.declared.offer.RawOffer.{RawOffer}
 use Rattle.branch.specs.Ids.{kind_of}
 use Rattle.branch.specs.Left.{offers_at}
 use Rattle.branch.specs.Listed.{AreListed}
 use Rattle.branch.specs.Offers.{Offer}
-use Rattle.branch.proofs.Sizing.{take_over}
 use Rattle.branch.proofs.Useful.{offers_more, raw_at_place}
 use Rattle.branch.proofs.listed.put_all.Goals as goal
 
@@ -41,4 +41,4 @@ returns-clause-listed c =
     subst
     (λ rs. (os : List Offer) → AreListed s os c.args.listing.now.offers
     → AreListed s (os ++ offers_at b (kind_of p.kind) p.later p.earlier (map (raw_of s) rs)) c.loop-raw.listing.offers)
-    (take_over c.args.raws.now c.loop-raw.raw-index c.loop-raw-test.false) c.loop-raw.invariant.listed
+    (take_all c.loop-raw.raw-index c.args.raws.now c.loop-raw-test.false) c.loop-raw.invariant.listed

@@ -1,12 +1,11 @@
 use Rattle.std.proofs.Common.{map}
-use Rattle.std.proofs.lemmas.Result.{err_from_is_err_and, on_ok_weaker}
+use Rattle.std.proofs.lemmas.Result.{err_from_is_err_and, on_ok_weaker, IfErr-weaker}
 use Rattle.zm_logic.specs.View.{symbol_tree}
 use Rattle.term_store.proofs.Kept.{extends_more}
 use Rattle.param_store.proofs.Stay.{forms_still}
 use Rattle.branch.specs.Left.{PairsTo, OthersAt}
 use Rattle.branch.specs.Listed.{IfStop}
 use Rattle.branch.specs.Listing.{IsTooDeep}
-use Rattle.branch.proofs.Outcomes.{if_err_weaker}
 use Rattle.branch.proofs.Parted.{others_add, others_deep, single_stops}
 use Rattle.branch.proofs.listing.list_others.Goals as goal
 
@@ -33,7 +32,7 @@ returns-clause-deep c =
     let u = c.args.store.now in
     let v = c.list_single.new.store in
     let w = c.list_pairs.new.store in
-    if_err_weaker c.list_pairs.result (IfStop (IsTooDeep (PairsTo j j) v w symbols params forms)) (IfStop (IsTooDeep (OthersAt j) u w symbols params forms))
+    IfErr-weaker c.list_pairs.result (IfStop (IsTooDeep (PairsTo j j) v w symbols params forms)) (IfStop (IsTooDeep (OthersAt j) u w symbols params forms))
     (λ stop d. others_deep symbols params forms u v w c.in_ok-list_single.ensures.kept j c.args.listing.now.offers c.list_single.new.listing.offers
     c.in_ok-list_single.ensures.adds stop d)
     c.list_pairs.ensures.deep

@@ -1,5 +1,5 @@
 use Rattle.std.proofs.Common.{map, sym, subst, OnOk, IfErr}
-use Rattle.std.proofs.lemmas.Result.{err_from_is_err_and, on_ok_weaker}
+use Rattle.std.proofs.lemmas.Result.{err_from_is_err_and, on_ok_weaker, IfErr-weaker}
 use Rattle.zm_logic.specs.View.{symbol_tree}
 use Rattle.term_store.proofs.Kept.{extends_more}
 use Rattle.param_store.specs.View.{HasForms}
@@ -7,7 +7,6 @@ use Rattle.param_store.proofs.Stay.{forms_still}
 use Rattle.branch.specs.Left.{OthersAt, PlaceAt}
 use Rattle.branch.specs.Listed.{IfStop}
 use Rattle.branch.specs.Listing.{AddsPart, IsTooDeep}
-use Rattle.branch.proofs.Outcomes.{if_err_weaker}
 use Rattle.branch.proofs.Parted.{place_adds, place_deep, own_stops}
 use Rattle.branch.proofs.listing.list_place.Goals as goal
 
@@ -44,7 +43,7 @@ returns-clause-deep c =
     let v = c.list_own.new.store in
     let w = c.list_others.new.store in
     let rest = subst (λ ps. IfErr c.list_others.result (IfStop (IsTooDeep (OthersAt j) v w symbols ps forms))) c.in_ok-list_own.ensures.params c.list_others.ensures.deep in
-    if_err_weaker c.list_others.result (IfStop (IsTooDeep (OthersAt j) v w symbols params forms)) (IfStop (IsTooDeep (PlaceAt j) u w symbols params forms))
+    IfErr-weaker c.list_others.result (IfStop (IsTooDeep (OthersAt j) v w symbols params forms)) (IfStop (IsTooDeep (PlaceAt j) u w symbols params forms))
     (λ stop d. place_deep symbols params forms u v w c.in_ok-list_own.ensures.kept j c.args.listing.now.offers c.list_own.new.listing.offers
     (c.in_ok-list_own.ensures.adds symbols) stop d)
     rest

@@ -1,4 +1,5 @@
 use Rattle.std.proofs.Common.{map, rules}
+use Rattle.unify.proofs.Listed.{ids_kept}
 use Rattle.zm_logic.specs.View.{symbol_tree}
 use Rattle.term_store.proofs.Kept.{extends_more}
 use Rattle.param_store.specs.Fault.{IfDeepAt}
@@ -6,7 +7,7 @@ use Rattle.param_store.proofs.Stay.{forms_still}
 use Rattle.unify.specs.declared.binding.Binding.{Binding}
 use Rattle.unify.specs.declared.binding.Binding.TheVariants.{OfTerm}
 use Rattle.equality_rules.specs.Offered.{NamesInstance}
-use Rattle.equality_rules.proofs.Listing.{ids_still, has_here, all_listed, names_fault, listed_more, bounded_more}
+use Rattle.equality_rules.proofs.Listing.{has_here, all_listed, names_fault, listed_more, bounded_more}
 use Rattle.equality_rules.proofs.instances.instances.Goals as goal
 
 abbrev none : Binding
@@ -18,7 +19,7 @@ instance-requires-clause-has c =
     let ss = map symbol_tree c.args.symbols.now in
     let bs = c.args.bindings.now in
     let i = c.loop-binding.binding-index in
-    ids_still s c.loop-binding.store c.loop-binding.invariant.kept _
+    ids_kept s c.loop-binding.store c.loop-binding.invariant.kept _
     (has_here ss s c.args.params.now bs c.loop-binding.store c.loop-binding.invariant.kept c.requires.numbered c.requires.has i none c.loop-binding-test.true)
 
 pub instance-requires-clause-numbered : goal.instance-requires-clause-numbered

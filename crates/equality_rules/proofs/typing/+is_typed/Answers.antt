@@ -1,4 +1,5 @@
-use Rattle.std.proofs.Common.{◌≡◌, ◌&&◌, false, true, length, map, option_map, Some, IfOk, ap, sym, subst, ◌∙◌, arith}
+use Rattle.std.proofs.Common.{◌≡◌, ◌&&◌, false, true, length, map, option_map, Some, IfOk, ap, sym, subst, ◌∙◌, arith, refl}
+use Rattle.std.proofs.lemmas.Bool.{and_right}
 use Rattle.zm_logic.specs.View.{symbol_tree}
 use Rattle.term_store.specs.Node.{types_at, terms_at}
 use Rattle.term_store.specs.Trees.{all_trees}
@@ -6,7 +7,7 @@ use Rattle.term_store.proofs.Loops.{term_below_at}
 use Rattle.term_store.proofs.Stays.{term_depth_at_within}
 use Rattle.equality_rules.specs.Typed.{are_types}
 use Rattle.equality_rules.specs.Heads.{are_typed, takes, heads_are, arguments_at}
-use Rattle.equality_rules.proofs.Pairwise.{and_false, each_no, each_end}
+use Rattle.equality_rules.proofs.Pairwise.{each_no, each_end}
 use Rattle.equality_rules.proofs.Lists.{term_test, terms_each, applied_found}
 use Rattle.equality_rules.proofs.Places.{declared_some}
 use Rattle.equality_rules.proofs.typing.+is_typed.Goals.{is_applied-then-not-takes-via-then-not-takes, is_applied-then-not-takes-via-else-not-takes+then-not-heads_are}
@@ -53,7 +54,7 @@ is_applied-returns-then-not-takes-clause-value t c =
     elim c.then-not-takes.branch [
       | is_applied-then-not-takes-via-then-not-takes w ↦ sym (found ∙ ap (λ b. (b && H) && R) (sym c.takes.ensures ∙ w.if-not-takes.true))
       | is_applied-then-not-takes-via-else-not-takes+then-not-heads_are w ↦
-          sym (found ∙ ap (λ b. (K && b) && R) (sym w.heads_are.ensures ∙ w.if-not-heads_are.true) ∙ ap (λ b. b && R) (and_false K))
+          sym (found ∙ ap (λ b. (K && b) && R) (sym w.heads_are.ensures ∙ w.if-not-heads_are.true) ∙ ap (λ b. b && R) (and_right K false refl))
     ]
 
 pub is_applied-returns-clause-value : goal.is_applied-returns-clause-value

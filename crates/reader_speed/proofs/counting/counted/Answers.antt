@@ -1,11 +1,10 @@
 use Rattle.std.proofs.Common.{ℕ, ◌≤◌, ◌<◌, length, arith}
 use Rattle.tptp_reader.specs.declared.statement.Statement.{Statement}
-use Rattle.reader_speed.specs.Counting.{none}
-use Rattle.reader_speed.proofs.Counted.{one_read, told}
+use Rattle.reader_speed.proofs.Counted.{told}
 use Rattle.reader_speed.proofs.counting.counted.Goals as goal
 
 pub loop-statement-init : goal.loop-statement-init
-loop-statement-init c = record { so_far = none; within = omega arith; few = omega arith }
+loop-statement-init c = record { within = omega arith; few = omega arith }
 
 pub loop-statement-preserved : goal.loop-statement-preserved
 loop-statement-preserved c =
@@ -16,7 +15,6 @@ loop-statement-preserved c =
     let place = told read s after (λ (s : Statement) (after : ℕ). c.loop-statement.reached ≤ s.at) c.in-Ok-Statement.field-0-is c.in-Ok-Statement.ensures.place in
     let order = told read s after (λ (s : Statement) (after : ℕ). s.at < after) c.in-Ok-Statement.field-0-is c.in-Ok-Statement.ensures.order in
     record {
-      so_far = one_read _ _ _ read s after c.in-Ok-Statement.field-0-is c.in-Ok-Statement.ensures.answer c.loop-statement.invariant.so_far;
       within = told read s after (λ (s : Statement) (after : ℕ). after ≤ length c.args.bytes.now) c.in-Ok-Statement.field-0-is c.in-Ok-Statement.ensures.within;
       few = omega arith;
     }

@@ -1,11 +1,9 @@
 use Rattle.std.proofs.Common.{◌≤◌, ◌-◌, length}
-use Rattle.reader_speed.specs.Counting.{Statements}
 use Rattle.reader_speed.proofs.counting.counted.Given as goal
 
--- the statements so far, each of at least one byte
+-- each statement so far has at least one byte
 abbrev pub invariant-loop-statement : goal.invariant-loop-statement
 invariant-loop-statement l = record {
-  so_far : Statements l.bytes l.statements l.reached;
   within : l.reached ≤ length l.bytes;
   few : l.statements ≤ l.reached;
 }

@@ -1,4 +1,5 @@
 use Rattle.std.proofs.Common.{ℕ, ◌≡◌, List, length, ap, sym, subst, ◌∙◌}
+use Rattle.std.proofs.lemmas.Result.{IfOk-weaker}
 use Rattle.zm_logic.specs.Tree.{Form}
 use Rattle.term_store.specs.Node.{types_at, terms_at}
 use Rattle.term_store.specs.Trees.{all_trees, form_of, form_node, HasFormParts}
@@ -6,7 +7,7 @@ use Rattle.term_store.specs.declared.node.FormNode.TheVariants.{Atom}
 use Rattle.unify.specs.Equation.{Equation, FormParts}
 use Rattle.unify.specs.Occurs.{IfFound}
 use Rattle.unify.specs.Task.{PushesParts}
-use Rattle.unify.proofs.FormSteps.{if_ok, Pushed, atoms_pushed, equalities_pushed}
+use Rattle.unify.proofs.FormSteps.{Pushed, atoms_pushed, equalities_pushed}
 use Rattle.unify.proofs.most_general.push_form_parts.Goals as goal
 
 pub returns-else-p-q : goal.returns-else-p-q
@@ -25,8 +26,8 @@ returns-else-p-q c =
     let same = ap (λ (n : ℕ). Form.atom n (types_at T js) (terms_at U vs)) (sym c.if-p-q.false) in
     let old = c.args.tasks.now.items in let new = c.push_parts.new.tasks.items in
     record {
-      parts = if_ok (IfFound (PushesParts is js us vs old new) (length is ≡ length js → length us ≡ length vs → ⊥)) (IfFound (Pushed s f g new) ((es : List Equation) → FormParts f g es → ⊥))
-          (atoms_pushed s is js us vs f g p.0 e (h ∙ same) old new c.requires.empty c.form_node.ensures.bounded c.form_node-2.ensures.bounded fit fit_right) c.push_parts.result c.push_parts.ensures;
+      parts = IfOk-weaker c.push_parts.result (IfFound (PushesParts is js us vs old new) (length is ≡ length js → length us ≡ length vs → ⊥)) (IfFound (Pushed s f g new) ((es : List Equation) → FormParts f g es → ⊥))
+          (atoms_pushed s is js us vs f g p.0 e (h ∙ same) old new c.requires.empty c.form_node.ensures.bounded c.form_node-2.ensures.bounded fit fit_right) c.push_parts.ensures;
     }
 
 pub returns-in_ok-push-in-Equal-Equal-3 : goal.returns-in_ok-push-in-Equal-Equal-3

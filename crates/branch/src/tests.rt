@@ -1,6 +1,0 @@
-mod branches;
-mod closing;
-mod entering;
-mod forms;
-mod formulas;
-mod listing;

@@ -1,0 +1,13 @@
+mod copies;
+mod libraries;
+mod measures;
+mod needs;
+mod numbers;
+mod offers;
+mod openings;
+mod problems;
+mod selections;
+mod sharing;
+mod stored;
+mod streams;
+mod trees;

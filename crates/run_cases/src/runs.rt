@@ -1,0 +1,90 @@
+use crate::fields::{has_one, joined, number_or};
+use crate::outside::{DIAG, OUT, command, library, sink, source};
+use crate::told::{all_told, status_told};
+use case_tables::{Case, CaseFault, Table};
+use std::alloc::Global;
+use zenon_modulo::run;
+use zm_base::{MemLibrary, MemSource};
+
+const WORDS: [&str; 16] = [
+    "word",
+    "no-words",
+    "source-piece",
+    "source-fails",
+    "file",
+    "content",
+    "library-fails",
+    "status",
+    "out",
+    "out-room",
+    "out-piece",
+    "out-fails",
+    "diag",
+    "diag-room",
+    "diag-piece",
+    "diag-fails",
+];
+
+/// A table of whole runs.
+pub struct Runs {
+    pub name: &'static str,
+}
+
+// Whether what the sinks hold is compared too.
+fn tells_sinks(case: &Case) -> bool {
+    case.first("out").is_some() || case.first("diag").is_some()
+}
+
+// How the run of a case is to end.
+fn wanted(alloc: Global, case: &Case) -> Result<Vec<u8>, CaseFault> {
+    if !has_one(case, "status")? || case.first("wanted").is_some() {
+        return Err(CaseFault::Broken);
+    }
+    let status = number_or(case, "status", 0)?;
+    if !tells_sinks(case) {
+        return Ok(status_told(alloc, status)?);
+    }
+    let out = joined(alloc, case, "out")?;
+    let diag = joined(alloc, case, "diag")?;
+    Ok(all_told(alloc, status, out.as_slice(), diag.as_slice())?)
+}
+
+// How the run of a case ends, with the words, the source and the library that it gives.
+fn ended(
+    alloc: Global,
+    case: &Case,
+    words: &[String],
+    input: &mut MemSource,
+    library: &mut MemLibrary,
+) -> Result<Vec<u8>, CaseFault> {
+    let mut out = sink(alloc, case, OUT)?;
+    let mut diag = sink(alloc, case, DIAG)?;
+    let ran = run(alloc, words, input, library, &mut out, &mut diag);
+    let status = usize::from(ran.status);
+    drop(ran);
+    if !tells_sinks(case) {
+        return Ok(status_told(alloc, status)?);
+    }
+    Ok(all_told(alloc, status, out.held(), diag.held())?)
+}
+
+impl Table for Runs {
+    fn name(&self) -> &'static str {
+        self.name
+    }
+
+    fn words(&self) -> &'static [&'static str] {
+        &WORDS
+    }
+
+    fn wanted(&self, alloc: Global, case: &Case) -> Result<Vec<u8>, CaseFault> {
+        wanted(alloc, case)
+    }
+
+    fn answer(&self, alloc: Global, case: &Case) -> Result<Vec<u8>, CaseFault> {
+        let words = command(alloc, case)?;
+        let mut input = source(alloc, case)?;
+        let mut library = library(alloc, case)?;
+        ended(alloc, case, words.as_slice(), &mut input, &mut library)
+    }
+}

@@ -1,5 +1,0 @@
-use Rattle.term_store.specs.Trees.{HasTerm}
-use Rattle.term_store.proofs.tests.stored.tower.Given as goal
-
-abbrev pub invariant-loop-step : goal.invariant-loop-step
-invariant-loop-step l = HasTerm l.store l.all
