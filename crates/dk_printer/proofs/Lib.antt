@@ -1,0 +1,5 @@
+pub mod Joined
+pub mod Parts
+pub mod Terms
+pub mod Texts
+pub mod Kept

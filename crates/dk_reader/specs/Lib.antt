@@ -1,0 +1,5 @@
+pub mod Seen
+pub mod Pieces
+pub mod Machine
+pub mod Told
+pub mod Judged
