@@ -1,0 +1,15 @@
+pub mod Term
+pub mod Measure
+pub mod Signature
+pub mod Reduction
+pub mod Typing
+pub mod PlainTyping
+pub mod WellFormed
+pub mod Names
+pub mod File
+pub mod Change
+pub mod View
+pub mod Rebuilding
+pub mod Places
+pub mod Worked
+pub mod Laws
