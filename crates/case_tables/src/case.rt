@@ -80,16 +80,6 @@ impl Case {
             None => Ok(otherwise),
         }
     }
-
-    /// Whether each word of the case is one of these.
-    pub fn knows_only(&self, words: &[&str]) -> bool {
-        for field in self.fields.as_slice() {
-            if !is_one_of(field.word.as_str(), words) {
-                return false;
-            }
-        }
-        true
-    }
 }
 
 // Whether a word is one of these.

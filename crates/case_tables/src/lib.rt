@@ -19,7 +19,4 @@ mod shared;
 mod table;
 
 pub use case::{Case, CaseFault, Field};
-pub use printed::shown;
-pub use reader::{TableFault, read_table};
-pub use score::Score;
 pub use table::{Table, table_holds};

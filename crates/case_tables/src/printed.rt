@@ -13,7 +13,7 @@ fn push_byte(out: &mut String, byte: u8) -> Result<(), AllocError> {
 }
 
 /// The bytes as a value of a table writes them.
-pub fn shown(alloc: Global, bytes: &[u8]) -> Result<String, AllocError> {
+pub(crate) fn shown(alloc: Global, bytes: &[u8]) -> Result<String, AllocError> {
     let mut out = String::new(alloc);
     for byte in bytes {
         push_byte(&mut out, *byte)?;

@@ -5,7 +5,7 @@ use std::alloc::{AllocError, Global};
 
 /// Why a table can't be used: no memory, no such file, no case in it, or a line that isn't understood.
 #[derive(Clone, Copy, Debug, PartialEq, Eq)]
-pub enum TableFault {
+pub(crate) enum TableFault {
     Memory,
     Missing,
     Empty,
@@ -83,7 +83,7 @@ fn read_cases(alloc: Global, bytes: &[u8]) -> Result<Vec<Case>, TableFault> {
 }
 
 /// The cases of a table, of which there is one at least.
-pub fn read_table(alloc: Global, bytes: &[u8]) -> Result<Vec<Case>, TableFault> {
+pub(crate) fn read_table(alloc: Global, bytes: &[u8]) -> Result<Vec<Case>, TableFault> {
     let cases = read_cases(alloc, bytes)?;
     match with_shared(alloc, cases) {
         Ok(cases) if cases.is_empty() => Err(TableFault::Empty),

@@ -4,7 +4,7 @@ use std::alloc::{AllocError, Global};
 
 /// How many cases of a table were tried, and how many of them held.
 #[derive(Clone, Copy, Debug)]
-pub struct Score {
+pub(crate) struct Score {
     name: &'static str,
     cases: usize,
     held: usize,
@@ -28,7 +28,7 @@ fn difference(
 
 impl Score {
     /// No case so far of the table with this name.
-    pub fn new(name: &'static str) -> Score {
+    pub(crate) fn new(name: &'static str) -> Score {
         Score {
             name,
             cases: 0,
@@ -37,7 +37,7 @@ impl Score {
     }
 
     /// Counts the case that begins at this line, and prints what was found where it isn't what is wanted.
-    pub fn note(
+    pub(crate) fn note(
         &mut self,
         rt: &HostRuntime,
         line: usize,
@@ -55,7 +55,7 @@ impl Score {
     }
 
     /// Prints how many cases held of how many, and says whether all did.
-    pub fn finish(&self, rt: &HostRuntime) -> bool {
+    pub(crate) fn finish(&self, rt: &HostRuntime) -> bool {
         let Score { name, cases, held } = *self;
         println!(rt; "{name}: {held} of {cases} cases").is_ok() && held == cases
     }
