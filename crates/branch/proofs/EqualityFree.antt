@@ -79,7 +79,7 @@ open_free k w (Form.equal t a b) = refl
 open_free k w (Form.negation f) = open_free k w f
 open_free k w (Form.binary c f g) = rw (open_free k w f, open_free k w g) refl
 open_free k w (Form.quantified q t f) = open_free (k + 1) w f
-open_free k w (Form.for_all_types f) = open_free (k + 1) w f
+open_free k w (Form.quantified_types q f) = open_free (k + 1) w f
 
 signed_free : (v : Bool) (f : Form) → IsEqualityFree f → IsEqualityFree (signed v f)
 signed_free true f h = h
@@ -95,9 +95,11 @@ IfFree (Some q) = IsEqualityFree q.body
 quantified_free : (f : Form) → IsEqualityFree f → IfFree (quantified f)
 quantified_free (Form.quantified Quantifier.existential t a) h = h
 quantified_free (Form.negation (Form.quantified Quantifier.universal t a)) h = h
-quantified_free (Form.negation (Form.for_all_types a)) h = h
+quantified_free (Form.quantified_types Quantifier.existential a) h = h
+quantified_free (Form.negation (Form.quantified_types Quantifier.universal a)) h = h
 quantified_free (Form.quantified Quantifier.universal t a) h = h
-quantified_free (Form.for_all_types a) h = h
+quantified_free (Form.quantified_types Quantifier.universal a) h = h
+quantified_free (Form.negation (Form.quantified_types Quantifier.existential a)) h = h
 quantified_free (Form.negation (Form.quantified Quantifier.existential t a)) h = h
 quantified_free f h = tt
 

@@ -5,9 +5,8 @@ use Rattle.zm_logic.specs.Parameter.{Parameter, EachInType, EachInTypes, EachInT
 use Rattle.zm_logic.specs.Typing.{IsType, WellTyped}
 use Rattle.zm_logic.specs.Rewriting.{RewritesBySome, TermStep, TermsStep, Step, Congruent}
 use Rattle.zm_logic.proofs.Each.{each}
-use Rattle.zm_logic.proofs.Sames.{Contains-here, Contains-there}
+use Rattle.zm_logic.proofs.Innermost.{innermost_step}
 use Rattle.branch.specs.Setting.{Setting}
-use Rattle.branch.specs.Innermost.{FirstRewrites, InnermostTermStep, InnermostTermsStep, InnermostStep}
 use Rattle.branch.specs.Normal.{Made, NormalizesFrom, Reaches}
 use Rattle.branch.specs.Occurs.{OccursInType, OccursInTypes, OccursInTerm, OccursInTerms, OccursIn}
 use Rattle.branch.specs.Sound.{IsSound}
@@ -59,33 +58,7 @@ module _ (P : Parameter → Type 0) (p : Parameter) where
   occurs (Form.binary c f g) h (inr o) = occurs g h.1 o
   occurs (Form.quantified q t f) h (inl o) = type_occurs t h.0 o
   occurs (Form.quantified q t f) h (inr o) = occurs f h.1 o
-  occurs (Form.for_all_types f) h o = occurs f h o
-
--- an innermost step is a step
-first_is_some : {rules : List Rule} {x y : Side} → FirstRewrites rules x y → RewritesBySome rules x y
-first_is_some (FirstRewrites.first {r = r} {rules = rules} h) = (r, Contains-here r rules, h)
-first_is_some (FirstRewrites.later {r = r} {rules = rules} n h) = let x = first_is_some h in (x.0, Contains-there r rules x.0 x.1, x.2)
-
-module _ (rules : List Rule) where
-  mutual
-    term_step : {a b : Term} → InnermostTermStep rules a b → TermStep rules a b
-    term_step (InnermostTermStep.here n h) = TermStep.here (first_is_some h)
-    term_step (InnermostTermStep.argument h) = TermStep.argument (terms_step h)
-
-    terms_step : {us vs : Terms} → InnermostTermsStep rules us vs → TermsStep rules us vs
-    terms_step (InnermostTermsStep.first h) = TermsStep.first (term_step h)
-    terms_step (InnermostTermsStep.later n h) = TermsStep.later (terms_step h)
-
-  pub innermost_step : {f g : Form} → InnermostStep rules f g → Step rules f g
-  innermost_step (InnermostStep.here n h) = Step.here (first_is_some h)
-  innermost_step (InnermostStep.atom h) = Step.atom (terms_step h)
-  innermost_step (InnermostStep.equal_left h) = Step.equal_left (term_step h)
-  innermost_step (InnermostStep.equal_right n h) = Step.equal_right (term_step h)
-  innermost_step (InnermostStep.negation h) = Step.negation (innermost_step h)
-  innermost_step (InnermostStep.binary_left h) = Step.binary_left (innermost_step h)
-  innermost_step (InnermostStep.binary_right n h) = Step.binary_right (innermost_step h)
-  innermost_step (InnermostStep.quantified n x y h) = Step.quantified n x y (innermost_step h)
-  innermost_step (InnermostStep.for_all_types n x y h) = Step.for_all_types n x y (innermost_step h)
+  occurs (Form.quantified_types q f) h o = occurs f h o
 
 -- what a well typed formula and its normal form have in common
 module _ (s : Setting) (sound : IsSound s) (P : Parameter → Type 0) where

@@ -7,7 +7,7 @@ use Rattle.zm_logic.specs.Rewriting.{Step}
 use Rattle.branch.specs.Setting.{Setting}
 use Rattle.branch.specs.Normal.{Made, NormalizesFrom}
 use Rattle.branch.specs.Sound.{IsSound}
-use Rattle.branch.proofs.Kept.{innermost_step}
+use Rattle.zm_logic.proofs.Innermost.{innermost_step}
 
 pub its_own : {from : Form} {n : ℕ} {f : Form} {x : Made Form} → NormalizesFrom [] from n f x → x ≡ Made.made f
 its_own (NormalizesFrom.done h) = refl

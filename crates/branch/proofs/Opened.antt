@@ -17,13 +17,15 @@ use Rattle.branch.proofs.Kept.{CarriesTypes}
 abbrev made : QuantifierKind → Binder → Bool → Form → Quantified
 made k b v a = record { kind = k; binder = b; holds = v; body = a }
 
--- the six shapes of a quantified formula
+-- the eight shapes of a quantified formula
 pub data IsShape : Form → Quantified → Type 0 where
   exists : (t : Ty) (a : Form) → IsShape (Form.quantified Quantifier.existential t a) (record { kind = QuantifierKind.delta; binder = Binder.of_term t; holds = true; body = a })
   not_for_all : (t : Ty) (a : Form) → IsShape (Form.negation (Form.quantified Quantifier.universal t a)) (record { kind = QuantifierKind.delta; binder = Binder.of_term t; holds = false; body = a })
-  not_for_all_types : (a : Form) → IsShape (Form.negation (Form.for_all_types a)) (record { kind = QuantifierKind.delta; binder = Binder.of_type; holds = false; body = a })
+  exists_types : (a : Form) → IsShape (Form.quantified_types Quantifier.existential a) (record { kind = QuantifierKind.delta; binder = Binder.of_type; holds = true; body = a })
+  not_for_all_types : (a : Form) → IsShape (Form.negation (Form.quantified_types Quantifier.universal a)) (record { kind = QuantifierKind.delta; binder = Binder.of_type; holds = false; body = a })
   for_all : (t : Ty) (a : Form) → IsShape (Form.quantified Quantifier.universal t a) (record { kind = QuantifierKind.gamma; binder = Binder.of_term t; holds = true; body = a })
-  for_all_types : (a : Form) → IsShape (Form.for_all_types a) (record { kind = QuantifierKind.gamma; binder = Binder.of_type; holds = true; body = a })
+  for_all_types : (a : Form) → IsShape (Form.quantified_types Quantifier.universal a) (record { kind = QuantifierKind.gamma; binder = Binder.of_type; holds = true; body = a })
+  not_exists_types : (a : Form) → IsShape (Form.negation (Form.quantified_types Quantifier.existential a)) (record { kind = QuantifierKind.gamma; binder = Binder.of_type; holds = false; body = a })
   not_exists : (t : Ty) (a : Form) → IsShape (Form.negation (Form.quantified Quantifier.existential t a)) (record { kind = QuantifierKind.gamma; binder = Binder.of_term t; holds = false; body = a })
 
 pub shape : (f : Form) (q : Quantified) → quantified f ≡ Some q → IsShape f q
@@ -31,12 +33,16 @@ shape (Form.quantified Quantifier.existential t a) q e =
     subst (IsShape (Form.quantified Quantifier.existential t a)) (same_Some (made QuantifierKind.delta (Binder.of_term t) true a) q e) (IsShape.exists t a)
 shape (Form.negation (Form.quantified Quantifier.universal t a)) q e =
     subst (IsShape (Form.negation (Form.quantified Quantifier.universal t a))) (same_Some (made QuantifierKind.delta (Binder.of_term t) false a) q e) (IsShape.not_for_all t a)
-shape (Form.negation (Form.for_all_types a)) q e =
-    subst (IsShape (Form.negation (Form.for_all_types a))) (same_Some (made QuantifierKind.delta Binder.of_type false a) q e) (IsShape.not_for_all_types a)
+shape (Form.quantified_types Quantifier.existential a) q e =
+    subst (IsShape (Form.quantified_types Quantifier.existential a)) (same_Some (made QuantifierKind.delta Binder.of_type true a) q e) (IsShape.exists_types a)
+shape (Form.negation (Form.quantified_types Quantifier.universal a)) q e =
+    subst (IsShape (Form.negation (Form.quantified_types Quantifier.universal a))) (same_Some (made QuantifierKind.delta Binder.of_type false a) q e) (IsShape.not_for_all_types a)
 shape (Form.quantified Quantifier.universal t a) q e =
     subst (IsShape (Form.quantified Quantifier.universal t a)) (same_Some (made QuantifierKind.gamma (Binder.of_term t) true a) q e) (IsShape.for_all t a)
-shape (Form.for_all_types a) q e =
-    subst (IsShape (Form.for_all_types a)) (same_Some (made QuantifierKind.gamma Binder.of_type true a) q e) (IsShape.for_all_types a)
+shape (Form.quantified_types Quantifier.universal a) q e =
+    subst (IsShape (Form.quantified_types Quantifier.universal a)) (same_Some (made QuantifierKind.gamma Binder.of_type true a) q e) (IsShape.for_all_types a)
+shape (Form.negation (Form.quantified_types Quantifier.existential a)) q e =
+    subst (IsShape (Form.negation (Form.quantified_types Quantifier.existential a))) (same_Some (made QuantifierKind.gamma Binder.of_type false a) q e) (IsShape.not_exists_types a)
 shape (Form.negation (Form.quantified Quantifier.existential t a)) q e =
     subst (IsShape (Form.negation (Form.quantified Quantifier.existential t a))) (same_Some (made QuantifierKind.gamma (Binder.of_term t) false a) q e) (IsShape.not_exists t a)
 shape f q e = cc
@@ -57,30 +63,38 @@ module _ (symbols : List Symbol) where
   part_typed sig (IsShape.exists t a) (Opening.of_type u) h k = absurd k
   part_typed sig (IsShape.not_for_all t a) (Opening.of_term u) h k = WellTyped.negation (well_typed_at_term symbols sig u (well_typed_negation symbols h) k)
   part_typed sig (IsShape.not_for_all t a) (Opening.of_type u) h k = absurd k
+  part_typed sig (IsShape.exists_types a) (Opening.of_type u) h k = well_typed_at_type symbols sig u h k
   part_typed sig (IsShape.not_for_all_types a) (Opening.of_type u) h k = WellTyped.negation (well_typed_at_type symbols sig u (well_typed_negation symbols h) k)
+  part_typed sig (IsShape.exists_types a) (Opening.of_term u) h k = absurd k
   part_typed sig (IsShape.not_for_all_types a) (Opening.of_term u) h k = absurd k
   part_typed sig (IsShape.for_all t a) (Opening.of_term u) h k = well_typed_at_term symbols sig u h k
   part_typed sig (IsShape.for_all t a) (Opening.of_type u) h k = absurd k
   part_typed sig (IsShape.for_all_types a) (Opening.of_type u) h k = well_typed_at_type symbols sig u h k
+  part_typed sig (IsShape.not_exists_types a) (Opening.of_type u) h k = WellTyped.negation (well_typed_at_type symbols sig u (well_typed_negation symbols h) k)
   part_typed sig (IsShape.for_all_types a) (Opening.of_term u) h k = absurd k
+  part_typed sig (IsShape.not_exists_types a) (Opening.of_term u) h k = absurd k
   part_typed sig (IsShape.not_exists t a) (Opening.of_term u) h k = WellTyped.negation (well_typed_at_term symbols sig u (well_typed_negation symbols h) k)
   part_typed sig (IsShape.not_exists t a) (Opening.of_type u) h k = absurd k
 
   pub own_fits : (n : ℕ) {f : Form} {q : Quantified} → IsShape f q → WellTyped symbols f → Fits symbols q.binder (own_part n q)
   own_fits n (IsShape.exists t a) h = (binder_type symbols h, refl)
   own_fits n (IsShape.not_for_all t a) h = (binder_type symbols (well_typed_negation symbols h), refl)
+  own_fits n (IsShape.exists_types a) h = tt
   own_fits n (IsShape.not_for_all_types a) h = tt
   own_fits n (IsShape.for_all t a) h = (binder_type symbols h, refl)
   own_fits n (IsShape.for_all_types a) h = tt
+  own_fits n (IsShape.not_exists_types a) h = tt
   own_fits n (IsShape.not_exists t a) h = (binder_type symbols (well_typed_negation symbols h), refl)
 
   -- what a formula carries for its binder is a type
   pub binder_is_type : {f : Form} {q : Quantified} → IsShape f q → WellTyped symbols f → (t : Ty) → q.binder ≡ Binder.of_term t → IsType symbols 0 t
   binder_is_type (IsShape.exists t a) h u e = subst (IsType symbols 0) (let i : t ≡ u = cc in i) (binder_type symbols h)
   binder_is_type (IsShape.not_for_all t a) h u e = subst (IsType symbols 0) (let i : t ≡ u = cc in i) (binder_type symbols (well_typed_negation symbols h))
+  binder_is_type (IsShape.exists_types a) h u e = cc
   binder_is_type (IsShape.not_for_all_types a) h u e = cc
   binder_is_type (IsShape.for_all t a) h u e = subst (IsType symbols 0) (let i : t ≡ u = cc in i) (binder_type symbols h)
   binder_is_type (IsShape.for_all_types a) h u e = cc
+  binder_is_type (IsShape.not_exists_types a) h u e = cc
   binder_is_type (IsShape.not_exists t a) h u e = subst (IsType symbols 0) (let i : t ≡ u = cc in i) (binder_type symbols (well_typed_negation symbols h))
 
 module _ (s : Setting) (gamma : List Form) where
@@ -89,9 +103,11 @@ module _ (s : Setting) (gamma : List Form) where
       → Derives s.symbols s.rules (at_part q (own_part n q) ∷ gamma) → Derives s.symbols s.rules gamma
   own_derives n (IsShape.exists t a) h m fresh d = Derives.existential t a n m (fresh refl) d
   own_derives n (IsShape.not_for_all t a) h m fresh d = Derives.not_for_all t a n m (fresh refl) d
+  own_derives n (IsShape.exists_types a) h m fresh d = Derives.existential_types a n m (fresh refl) d
   own_derives n (IsShape.not_for_all_types a) h m fresh d = Derives.not_for_all_types a n m (fresh refl) d
   own_derives n (IsShape.for_all t a) h m fresh d = Derives.universal t a (Term.meta n t) m (binder_type s.symbols h, refl) d
-  own_derives n (IsShape.for_all_types a) h m fresh d = Derives.for_all_types a (Ty.meta n) m tt d
+  own_derives n (IsShape.for_all_types a) h m fresh d = Derives.universal_types a (Ty.meta n) m tt d
+  own_derives n (IsShape.not_exists_types a) h m fresh d = Derives.not_exists_types a (Ty.meta n) m tt d
   own_derives n (IsShape.not_exists t a) h m fresh d = Derives.not_exists t a (Term.meta n t) m (binder_type s.symbols (well_typed_negation s.symbols h), refl) d
 
   -- a gamma formula may be opened with whatever fits
@@ -99,11 +115,14 @@ module _ (s : Setting) (gamma : List Form) where
       → Derives s.symbols s.rules (at_part q w ∷ gamma) → Derives s.symbols s.rules gamma
   instance_derives (IsShape.exists t a) e w k m d = cc
   instance_derives (IsShape.not_for_all t a) e w k m d = cc
+  instance_derives (IsShape.exists_types a) e w k m d = cc
   instance_derives (IsShape.not_for_all_types a) e w k m d = cc
   instance_derives (IsShape.for_all t a) e (Opening.of_term u) k m d = Derives.universal t a u m k d
   instance_derives (IsShape.for_all t a) e (Opening.of_type u) k m d = absurd k
-  instance_derives (IsShape.for_all_types a) e (Opening.of_type u) k m d = Derives.for_all_types a u m k d
+  instance_derives (IsShape.for_all_types a) e (Opening.of_type u) k m d = Derives.universal_types a u m k d
+  instance_derives (IsShape.not_exists_types a) e (Opening.of_type u) k m d = Derives.not_exists_types a u m k d
   instance_derives (IsShape.for_all_types a) e (Opening.of_term u) k m d = absurd k
+  instance_derives (IsShape.not_exists_types a) e (Opening.of_term u) k m d = absurd k
   instance_derives (IsShape.not_exists t a) e (Opening.of_term u) k m d = Derives.not_exists t a u m k d
   instance_derives (IsShape.not_exists t a) e (Opening.of_type u) k m d = absurd k
 
@@ -137,9 +156,11 @@ module _ (s : Setting) (P : Parameter → Type 0) (c : CarriesTypes s P) where
   pub part_each : {f : Form} {q : Quantified} → IsShape f q → (w : Opening) → EachIn P f → EachInOpening P w → EachIn P (at_part q w)
   part_each (IsShape.exists t a) w e h = each_open P w h (carried w) (carried_meta w) 0 a e.1
   part_each (IsShape.not_for_all t a) w e h = each_open P w h (carried w) (carried_meta w) 0 a e.1
+  part_each (IsShape.exists_types a) w e h = each_open P w h (carried w) (carried_meta w) 0 a e
   part_each (IsShape.not_for_all_types a) w e h = each_open P w h (carried w) (carried_meta w) 0 a e
   part_each (IsShape.for_all t a) w e h = each_open P w h (carried w) (carried_meta w) 0 a e.1
   part_each (IsShape.for_all_types a) w e h = each_open P w h (carried w) (carried_meta w) 0 a e
+  part_each (IsShape.not_exists_types a) w e h = each_open P w h (carried w) (carried_meta w) 0 a e
   part_each (IsShape.not_exists t a) w e h = each_open P w h (carried w) (carried_meta w) 0 a e.1
 
   pub types_instance_each : (ts rs : Tys) → EachInTypes P ts → EachInTypes P rs → EachInTypes P (types_instance (openings ts) rs)
@@ -152,7 +173,9 @@ pub own_each : (P : Parameter → Type 0) (n : ℕ) {f : Form} {q : Quantified} 
     → ((p : Parameter) → number p ≡ n → part_of p ≡ own_part n q → P p) → EachInOpening P (own_part n q)
 own_each P n (IsShape.exists t a) d h = (h (Parameter.eps n t) refl refl, d.0)
 own_each P n (IsShape.not_for_all t a) d h = (h (Parameter.eps n t) refl refl, d.0)
+own_each P n (IsShape.exists_types a) d h = h (Parameter.type_param n) refl refl
 own_each P n (IsShape.not_for_all_types a) d h = h (Parameter.type_param n) refl refl
 own_each P n (IsShape.for_all t a) d h = (h (Parameter.meta n t) refl refl, d.0)
 own_each P n (IsShape.for_all_types a) d h = h (Parameter.type_meta n) refl refl
+own_each P n (IsShape.not_exists_types a) d h = h (Parameter.type_meta n) refl refl
 own_each P n (IsShape.not_exists t a) d h = (h (Parameter.meta n t) refl refl, d.0)

@@ -7,7 +7,7 @@ use Rattle.zm_logic.specs.Rewriting.{Fit, Rewrites, RewritesBySome, TermsStep, S
 use Rattle.zm_logic.specs.Laws.{p_to_q}
 use Rattle.zm_logic.proofs.Sames.{only}
 use Rattle.branch.specs.Setting.{Setting}
-use Rattle.branch.specs.Innermost.{FirstRewrites, InnermostStep}
+use Rattle.zm_logic.specs.Innermost.{FirstRewrites, InnermostStep}
 use Rattle.branch.specs.Normal.{Made, NormalizesFrom, MakesAll}
 use Rattle.param_store.specs.RawOffers.{on, one, two}
 use Rattle.branch.specs.BranchOffers.{Kind, Placed, Entry, SingleEntries, PairEntries, PairsWith, EntriesFrom}
@@ -108,7 +108,7 @@ second_is_normal (Step.negation h) e = cc
 second_is_normal (Step.binary_left h) e = cc
 second_is_normal (Step.binary_right h) e = cc
 second_is_normal (Step.quantified n x y h) e = cc
-second_is_normal (Step.for_all_types n x y h) e = cc
+second_is_normal (Step.quantified_types n x y h) e = cc
 
 negation_is_normal : {f g : Form} → Step p_to_q f g → f ≡ Form.negation (letter 2) → ⊥
 negation_is_normal (Step.here {f = f} {g = g} h) e = let w = only_first (Side.of_form f) (Side.of_form g) h in cc
@@ -119,7 +119,7 @@ negation_is_normal (Step.negation h) e = second_is_normal h cc
 negation_is_normal (Step.binary_left h) e = cc
 negation_is_normal (Step.binary_right h) e = cc
 negation_is_normal (Step.quantified n x y h) e = cc
-negation_is_normal (Step.for_all_types n x y h) e = cc
+negation_is_normal (Step.quantified_types n x y h) e = cc
 
 negation_steps : InnermostStep p_to_q (Form.negation (letter 1)) (Form.negation (letter 2))
 negation_steps = InnermostStep.negation (InnermostStep.here (λ us h. no_arguments h refl) (FirstRewrites.first ([], Fit.none, refl, refl)))

@@ -30,10 +30,10 @@ not_quantified (Form.negation (Form.equal t a b)) h = absurd h
 not_quantified (Form.negation (Form.negation f)) h = refl
 not_quantified (Form.negation (Form.binary c f g)) h = refl
 not_quantified (Form.negation (Form.quantified q t f)) h = absurd h
-not_quantified (Form.negation (Form.for_all_types f)) h = absurd h
+not_quantified (Form.negation (Form.quantified_types q f)) h = absurd h
 not_quantified (Form.binary c f g) h = refl
 not_quantified (Form.quantified q t f) h = absurd h
-not_quantified (Form.for_all_types f) h = absurd h
+not_quantified (Form.quantified_types q f) h = absurd h
 
 not_equality : (f : Form) → IsQuantifierFree f → is_equality f ≡ false
 not_equality Form.truth h = refl
@@ -43,7 +43,7 @@ not_equality (Form.equal t a b) h = absurd h
 not_equality (Form.negation f) h = refl
 not_equality (Form.binary c f g) h = refl
 not_equality (Form.quantified q t f) h = refl
-not_equality (Form.for_all_types f) h = refl
+not_equality (Form.quantified_types q f) h = refl
 
 pub no_equality : (b : List Form) → ((f : Form) → Contains b f → IsQuantifierFree f) → has_equality b ≡ false
 no_equality [] h = refl

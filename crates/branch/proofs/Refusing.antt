@@ -20,9 +20,11 @@ use Rattle.branch.proofs.Unchanged.{entries_deep, instances_deep}
 unsplit : (f : Form) (q : Quantified) → quantified f ≡ Some q → split f ≡ []
 unsplit (Form.quantified Quantifier.existential t a) q e = refl
 unsplit (Form.negation (Form.quantified Quantifier.universal t a)) q e = refl
-unsplit (Form.negation (Form.for_all_types a)) q e = refl
+unsplit (Form.quantified_types Quantifier.existential a) q e = refl
+unsplit (Form.negation (Form.quantified_types Quantifier.universal a)) q e = refl
 unsplit (Form.quantified Quantifier.universal t a) q e = refl
-unsplit (Form.for_all_types a) q e = refl
+unsplit (Form.quantified_types Quantifier.universal a) q e = refl
+unsplit (Form.negation (Form.quantified_types Quantifier.existential a)) q e = refl
 unsplit (Form.negation (Form.quantified Quantifier.existential t a)) q e = refl
 unsplit f q e = cc
 

@@ -115,7 +115,7 @@ one_unified (Form.equal t a b) e =
 one_unified (Form.negation f) e = cc
 one_unified (Form.binary c f g) e = cc
 one_unified (Form.quantified q t f) e = cc
-one_unified (Form.for_all_types f) e = cc
+one_unified (Form.quantified_types q f) e = cc
 
 -- a substitution leaves a tree without parameters as it is
 module _ (a : Substitution) where
@@ -149,7 +149,7 @@ module _ (a : Substitution) where
   form_stays (Form.negation f) h = ap Form.negation (form_stays f h)
   form_stays (Form.binary c f g) h = let x = form_stays f h.0 in let y = form_stays g h.1 in cc
   form_stays (Form.quantified q t f) h = let x = type_stays t h.0 in let y = form_stays f h.1 in cc
-  form_stays (Form.for_all_types f) h = ap Form.for_all_types (form_stays f h)
+  form_stays (Form.quantified_types q f) h = ap (Form.quantified_types q) (form_stays f h)
 
 -- nothing makes two formulas without parameters one
 pub never_one : (f g : Form) → HasNoParameter f → HasNoParameter g → same f g ≡ false → FormsDiffer f g

@@ -10,7 +10,7 @@ holds_equality (Form.equal t a b) = true
 holds_equality (Form.negation f) = holds_equality f
 holds_equality (Form.binary c f g) = holds_equality f || holds_equality g
 holds_equality (Form.quantified q t f) = holds_equality f
-holds_equality (Form.for_all_types f) = holds_equality f
+holds_equality (Form.quantified_types q f) = holds_equality f
 
 -- none of the formulas holds an equality
 abbrev pub AreEqualityFree : List Form → Type 0

@@ -2,7 +2,6 @@ pub mod Setting
 pub mod Branch
 pub mod Denied
 pub mod BranchOffers
-pub mod Innermost
 pub mod Normal
 pub mod Occurs
 pub mod Sound

@@ -3,7 +3,7 @@ use Rattle.std.specs.Prelude.{ℕ, suc, ◌≤◌, ◌<◌, List, [], ◌∷◌}
 use Rattle.zm_logic.specs.Tree.{Form, Side, Rule}
 use Rattle.zm_logic.specs.Measure.{depth}
 use Rattle.branch.specs.Setting.{Setting}
-use Rattle.branch.specs.Innermost.{IsNormal, InnermostStep}
+use Rattle.zm_logic.specs.Innermost.{IsNormal, InnermostStep}
 
 -- Why something can't be made: a formula has more steps than may be taken, or something is deeper than 2,000. Of a
 -- formula that a step leads to, the last formula before it is named.

@@ -34,4 +34,4 @@ module _ (p : Parameter) where
   OccursIn (Form.negation f) = OccursIn f
   OccursIn (Form.binary c f g) = OccursIn f ⊎ OccursIn g
   OccursIn (Form.quantified q t f) = OccursInType t ⊎ OccursIn f
-  OccursIn (Form.for_all_types f) = OccursIn f
+  OccursIn (Form.quantified_types q f) = OccursIn f

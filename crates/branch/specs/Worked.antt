@@ -1,7 +1,7 @@
 -- Worked examples: closed tableaux with no rules, for any limit on rewrites, pruned or not. Each statement is the contract
 -- of a function of the module laws.
 use Rattle.std.specs.Prelude.{ℕ, codes, ◌≡◌, Bool, true, false, List, [], ◌∷◌}
-use Rattle.zm_logic.specs.Tree.{Ty, Tys, Term, Terms, Form, Opening, Symbol, Sense, for_all, exists, both, either, differ}
+use Rattle.zm_logic.specs.Tree.{Ty, Tys, Term, Terms, Form, Opening, Symbol, Sense, for_all, exists, for_all_types, both, either, differ}
 use Rattle.zm_logic.specs.Laws.{p_and_q, p_to_q}
 use Rattle.zm_logic.specs.Typing.{individual}
 use Rattle.param_store.specs.RawOffers.{Act, on, on_with, one, two}
@@ -67,7 +67,7 @@ abbrev pub q : Ty → Form
 q t = Form.atom 1 (Tys.more t Tys.none) Terms.none
 
 abbrev pub all_q : Form
-all_q = Form.for_all_types (q (Ty.bound 0))
+all_q = for_all_types (q (Ty.bound 0))
 
 abbrev pub not_q : Form
 not_q = Form.negation (q individual)

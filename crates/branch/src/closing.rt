@@ -58,7 +58,8 @@ fn denial_closes(store: &Store, form: FormId) -> bool
         | FormNode::Iff(_, _)
         | FormNode::All(_, _)
         | FormNode::Ex(_, _)
-        | FormNode::AllType(_) => false,
+        | FormNode::AllType(_)
+        | FormNode::ExType(_) => false,
     }
 }
 
@@ -79,7 +80,8 @@ fn closes_alone(store: &Store, form: FormId) -> bool
         | FormNode::Iff(_, _)
         | FormNode::All(_, _)
         | FormNode::Ex(_, _)
-        | FormNode::AllType(_) => false,
+        | FormNode::AllType(_)
+        | FormNode::ExType(_) => false,
     }
 }
 
@@ -101,7 +103,8 @@ fn denied(store: &Store, form: FormId) -> Option<FormId>
         | FormNode::Iff(_, _)
         | FormNode::All(_, _)
         | FormNode::Ex(_, _)
-        | FormNode::AllType(_) => None,
+        | FormNode::AllType(_)
+        | FormNode::ExType(_) => None,
     }
 }
 
@@ -122,7 +125,8 @@ fn is_equality(store: &Store, form: FormId) -> bool
         | FormNode::Iff(_, _)
         | FormNode::All(_, _)
         | FormNode::Ex(_, _)
-        | FormNode::AllType(_) => false,
+        | FormNode::AllType(_)
+        | FormNode::ExType(_) => false,
     }
 }
 
@@ -143,7 +147,8 @@ fn is_equation(store: &Store, form: FormId) -> bool
         | FormNode::Iff(_, _)
         | FormNode::All(_, _)
         | FormNode::Ex(_, _)
-        | FormNode::AllType(_) => false,
+        | FormNode::AllType(_)
+        | FormNode::ExType(_) => false,
     }
 }
 
@@ -179,7 +184,8 @@ fn is_swapped(store: &Store, first: FormId, second: FormId) -> bool
         | FormNode::Iff(_, _)
         | FormNode::All(_, _)
         | FormNode::Ex(_, _)
-        | FormNode::AllType(_) => false,
+        | FormNode::AllType(_)
+        | FormNode::ExType(_) => false,
     }
 }
 

@@ -264,7 +264,7 @@ fn new_size(store: &Store, kept: &mut Sizes, id: FormId) -> Result<u64, AllocErr
             applied_size(store, kept, types.as_slice(), terms.as_slice())
         }
         FormNode::Equal(ty, left, right) => equal_size(store, kept, *ty, *left, *right),
-        FormNode::Not(f) | FormNode::AllType(f) => one_size(store, kept, *f),
+        FormNode::Not(f) | FormNode::AllType(f) | FormNode::ExType(f) => one_size(store, kept, *f),
         FormNode::And(f, g) | FormNode::Or(f, g) | FormNode::Imp(f, g) | FormNode::Iff(f, g) => {
             two_size(store, kept, *f, *g)
         }

@@ -27,7 +27,7 @@ denied_some (Form.equal t a b) g e = absurd (none-some g (sym e))
 denied_some (Form.negation f) g e = ap Form.negation (sym (same_Some g f e))
 denied_some (Form.binary c f h) g e = absurd (none-some g (sym e))
 denied_some (Form.quantified q t f) g e = absurd (none-some g (sym e))
-denied_some (Form.for_all_types f) g e = absurd (none-some g (sym e))
+denied_some (Form.quantified_types q f) g e = absurd (none-some g (sym e))
 
 -- the opposites that two sides are of
 pub sides_some : (x : Option Opposites) (p : Form × Form) → Some p ≡ option_map sides x → (o : Opposites) × (x ≡ Some o) × (sides o ≡ p)

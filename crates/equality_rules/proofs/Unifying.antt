@@ -41,7 +41,7 @@ alike_forms (Form.atom p ts us) (Form.equal t' a' b') h = absurd (true≢false (
 alike_forms (Form.atom p ts us) (Form.negation f') h = absurd (true≢false (sym h))
 alike_forms (Form.atom p ts us) (Form.binary c' f' g') h = absurd (true≢false (sym h))
 alike_forms (Form.atom p ts us) (Form.quantified q' t' f') h = absurd (true≢false (sym h))
-alike_forms (Form.atom p ts us) (Form.for_all_types f') h = absurd (true≢false (sym h))
+alike_forms (Form.atom p ts us) (Form.quantified_types q' f') h = absurd (true≢false (sym h))
 alike_forms (Form.equal t a b) Form.truth h = absurd (true≢false (sym h))
 alike_forms (Form.equal t a b) Form.falsity h = absurd (true≢false (sym h))
 alike_forms (Form.equal t a b) (Form.atom p' ts' us') h = absurd (true≢false (sym h))
@@ -49,11 +49,11 @@ alike_forms (Form.equal t a b) (Form.equal t' a' b') h = tt
 alike_forms (Form.equal t a b) (Form.negation f') h = absurd (true≢false (sym h))
 alike_forms (Form.equal t a b) (Form.binary c' f' g') h = absurd (true≢false (sym h))
 alike_forms (Form.equal t a b) (Form.quantified q' t' f') h = absurd (true≢false (sym h))
-alike_forms (Form.equal t a b) (Form.for_all_types f') h = absurd (true≢false (sym h))
+alike_forms (Form.equal t a b) (Form.quantified_types q' f') h = absurd (true≢false (sym h))
 alike_forms (Form.negation f) g' h = absurd (true≢false (sym h))
 alike_forms (Form.binary c f g) g' h = absurd (true≢false (sym h))
 alike_forms (Form.quantified q t f) g' h = absurd (true≢false (sym h))
-alike_forms (Form.for_all_types f) g' h = absurd (true≢false (sym h))
+alike_forms (Form.quantified_types q f) g' h = absurd (true≢false (sym h))
 
 -- two forms that nothing makes one have no bindings
 pub no_unifier : (f g : Form) → FormsDiffer f g → (made : List Binding) → UnifiesForms f g made → ⊥

@@ -23,7 +23,7 @@ is_atom (Form.equal t a b) = false
 is_atom (Form.negation f) = false
 is_atom (Form.binary c f g) = false
 is_atom (Form.quantified q t f) = false
-is_atom (Form.for_all_types f) = false
+is_atom (Form.quantified_types q f) = false
 
 abbrev pub is_equality : Form → Bool
 is_equality Form.truth = false
@@ -33,7 +33,7 @@ is_equality (Form.equal t a b) = true
 is_equality (Form.negation f) = false
 is_equality (Form.binary c f g) = false
 is_equality (Form.quantified q t f) = false
-is_equality (Form.for_all_types f) = false
+is_equality (Form.quantified_types q f) = false
 
 -- both are atoms, or both are equalities
 abbrev pub alike : Form → Form → Bool
@@ -48,7 +48,7 @@ denied_of (Form.equal t a b) = None
 denied_of (Form.negation f) = Some f
 denied_of (Form.binary c f g) = None
 denied_of (Form.quantified q t f) = None
-denied_of (Form.for_all_types f) = None
+denied_of (Form.quantified_types q f) = None
 
 -- an atom or an equality, and the negation of another one, either way round
 abbrev pub opposites_by : Form → Form → Option Form → Option Form → Option Opposites

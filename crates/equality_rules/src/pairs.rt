@@ -40,7 +40,8 @@ fn denied(store: &Store, form: FormId) -> Option<FormId>
         | FormNode::Iff(_, _)
         | FormNode::All(_, _)
         | FormNode::Ex(_, _)
-        | FormNode::AllType(_) => None,
+        | FormNode::AllType(_)
+        | FormNode::ExType(_) => None,
     }
 }
 
@@ -60,7 +61,8 @@ fn is_atom(store: &Store, form: FormId) -> bool
         | FormNode::Iff(_, _)
         | FormNode::All(_, _)
         | FormNode::Ex(_, _)
-        | FormNode::AllType(_) => false,
+        | FormNode::AllType(_)
+        | FormNode::ExType(_) => false,
     }
 }
 
@@ -80,7 +82,8 @@ fn is_equality(store: &Store, form: FormId) -> bool
         | FormNode::Iff(_, _)
         | FormNode::All(_, _)
         | FormNode::Ex(_, _)
-        | FormNode::AllType(_) => false,
+        | FormNode::AllType(_)
+        | FormNode::ExType(_) => false,
     }
 }
 
@@ -236,7 +239,8 @@ fn inequation(store: &Store, form: FormId) -> Option<(TermId, TermId)>
         | FormNode::Iff(_, _)
         | FormNode::All(_, _)
         | FormNode::Ex(_, _)
-        | FormNode::AllType(_) => None,
+        | FormNode::AllType(_)
+        | FormNode::ExType(_) => None,
     }
 }
 

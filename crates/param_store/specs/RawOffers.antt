@@ -76,10 +76,12 @@ some_of k b s a = Some (record { kind = k; binder = b; holds = s; body = a })
 abbrev pub quantified : Form → Option Quantified
 quantified (Form.quantified Quantifier.existential t a) = some_of QuantifierKind.delta (Binder.of_term t) true a
 quantified (Form.negation (Form.quantified Quantifier.universal t a)) = some_of QuantifierKind.delta (Binder.of_term t) false a
-quantified (Form.negation (Form.for_all_types a)) = some_of QuantifierKind.delta Binder.of_type false a
+quantified (Form.quantified_types Quantifier.existential a) = some_of QuantifierKind.delta Binder.of_type true a
+quantified (Form.negation (Form.quantified_types Quantifier.universal a)) = some_of QuantifierKind.delta Binder.of_type false a
 quantified (Form.quantified Quantifier.universal t a) = some_of QuantifierKind.gamma (Binder.of_term t) true a
-quantified (Form.for_all_types a) = some_of QuantifierKind.gamma Binder.of_type true a
+quantified (Form.quantified_types Quantifier.universal a) = some_of QuantifierKind.gamma Binder.of_type true a
 quantified (Form.negation (Form.quantified Quantifier.existential t a)) = some_of QuantifierKind.gamma (Binder.of_term t) false a
+quantified (Form.negation (Form.quantified_types Quantifier.existential a)) = some_of QuantifierKind.gamma Binder.of_type false a
 quantified _ = None
 
 abbrev pub is_quantified : Form → Bool

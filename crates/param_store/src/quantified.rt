@@ -11,9 +11,9 @@ use term_store::{FormId, FormNode, Store, TyId};
 /// With what a quantified formula is opened.
 #[derive(Clone, Copy, Debug, PartialEq, Eq)]
 pub enum QuantifierKind {
-    /// With a parameter of its own, once: `? x F` and `~ ! x F`.
+    /// With a parameter of its own, once: `? x F` and `~ ! x F`, also over types.
     Delta,
-    /// With its metavariable, and with instances: `! x F` and `~ ? x F`.
+    /// With its metavariable, and with instances: `! x F` and `~ ? x F`, also over types.
     Gamma,
 }
 
@@ -77,6 +77,7 @@ fn as_denied(store: &Store, form: FormId) -> Option<Quantified>
         FormNode::All(ty, body) => Some(over_terms(QuantifierKind::Delta, *ty, false, *body)),
         FormNode::Ex(ty, body) => Some(over_terms(QuantifierKind::Gamma, *ty, false, *body)),
         FormNode::AllType(body) => Some(over_types(QuantifierKind::Delta, false, *body)),
+        FormNode::ExType(body) => Some(over_types(QuantifierKind::Gamma, false, *body)),
         FormNode::True
         | FormNode::False
         | FormNode::Atom(_, _, _)
@@ -100,6 +101,7 @@ pub fn as_quantified(store: &Store, form: FormId) -> Option<Quantified>
         FormNode::All(ty, body) => Some(over_terms(QuantifierKind::Gamma, *ty, true, *body)),
         FormNode::Ex(ty, body) => Some(over_terms(QuantifierKind::Delta, *ty, true, *body)),
         FormNode::AllType(body) => Some(over_types(QuantifierKind::Gamma, true, *body)),
+        FormNode::ExType(body) => Some(over_types(QuantifierKind::Delta, true, *body)),
         FormNode::Not(denied) => as_denied(store, *denied),
         FormNode::True
         | FormNode::False

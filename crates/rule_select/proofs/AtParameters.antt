@@ -2,7 +2,7 @@
 use Rattle.std.proofs.Common.{ℕ, ◌≡◌, ◌+◌, ◌<◌, ◌==◌, suc, Bool, true, false, if◌then◌else◌, inr, refl, ap, sym, ◌∙◌, subst, arith, List, [], ◌∷◌, length}
 use Rattle.std.proofs.lemmas.Bool.{ne_eqb}
 use Rattle.zm_logic.proofs.Inverted.{binder_type}
-use Rattle.zm_logic.specs.Tree.{Ty, Term, Form, Opening, Symbol, Binder, for_all}
+use Rattle.zm_logic.specs.Tree.{Ty, Term, Form, Opening, Symbol, Binder, for_all, for_all_types}
 use Rattle.zm_logic.specs.Opening.{open_type, open_term, open_at}
 use Rattle.zm_logic.specs.Parameter.{EachInTerm, EachIn}
 use Rattle.zm_logic.specs.Index.{IsClosedType, IsClosedTerm}
@@ -29,7 +29,7 @@ pub open_prenex : (k : ℕ) (o : Opening) (bs : List Binder) (f : Form) → open
 open_prenex k o [] f = let e : k ≡ k + 0 = omega arith in ap (λ n. open_at n o f) e
 open_prenex k o (Binder.of_type ∷ bs) f =
     let e : (k + 1) + length bs ≡ k + length (Binder.of_type ∷ bs) = omega arith in
-    ap Form.for_all_types (open_prenex (k + 1) o bs f ∙ ap (λ n. prenex (open_binders (k + 1) o bs) (open_at n o f)) e)
+    ap for_all_types (open_prenex (k + 1) o bs f ∙ ap (λ n. prenex (open_binders (k + 1) o bs) (open_at n o f)) e)
 open_prenex k o (Binder.of_term t ∷ bs) f =
     let e : (k + 1) + length bs ≡ k + length (Binder.of_term t ∷ bs) = omega arith in
     ap (for_all (open_type k o t)) (open_prenex (k + 1) o bs f ∙ ap (λ n. prenex (open_binders (k + 1) o bs) (open_at n o f)) e)

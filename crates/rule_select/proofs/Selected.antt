@@ -2,7 +2,7 @@
 use Rattle.std.proofs.Common.{ℕ, ◌≡◌, ◌+◌, zero, suc, Bool, true, false, ◌&&◌, if◌then◌else◌, ◌⊎◌, inl, inr, refl, ap, sym, subst, arith, Option, List, [], ◌∷◌, ◌++◌, length, All}
 use Rattle.std.specs.List.{Contains}
 use Rattle.std.proofs.lemmas.List.Elements.{All-head, All-tail}
-use Rattle.zm_logic.specs.Tree.{Ty, Term, Form, Connective, Quantifier, Opening, Symbol, Rule, Binder, Role, Premise, iff, for_all}
+use Rattle.zm_logic.specs.Tree.{Ty, Term, Form, Connective, Quantifier, Opening, Symbol, Rule, Binder, Role, Premise, iff, for_all, for_all_types}
 use Rattle.zm_logic.specs.Opening.{open_at, at_term, at_type}
 use Rattle.zm_logic.specs.Parameter.{Parameter, IsNot, IsFresh, EachIn, EachInTerm, Never}
 use Rattle.zm_logic.specs.Index.{IsClosed}
@@ -30,7 +30,8 @@ prenex_front (Form.negation f) = refl
 prenex_front (Form.binary c f g) = refl
 prenex_front (Form.quantified Quantifier.universal t f) = ap (for_all t) (prenex_front f)
 prenex_front (Form.quantified Quantifier.existential t f) = refl
-prenex_front (Form.for_all_types f) = ap Form.for_all_types (prenex_front f)
+prenex_front (Form.quantified_types Quantifier.universal f) = ap for_all_types (prenex_front f)
+prenex_front (Form.quantified_types Quantifier.existential f) = refl
 
 -- the same formula, or one with its sides swapped
 pub data Swapped : Form → Form → Type 0 where
@@ -65,8 +66,9 @@ module _ (symbols : List Symbol) where
       → (n : ℕ) × IsFresh n (Form.quantified q t f) × IsType symbols 0 t × WellTyped symbols (at_term f (Term.eps n t))
   under_term (WellTyped.quantified n fresh it h) = (n, fresh, it, h)
 
-  under_type : {f : Form} → WellTyped symbols (Form.for_all_types f) → (n : ℕ) × IsFresh n (Form.for_all_types f) × WellTyped symbols (at_type f (Ty.param n))
-  under_type (WellTyped.for_all_types n fresh h) = (n, fresh, h)
+  under_type : {q : Quantifier} {f : Form} → WellTyped symbols (Form.quantified_types q f)
+      → (n : ℕ) × IsFresh n (Form.quantified_types q f) × WellTyped symbols (at_type f (Ty.param n))
+  under_type (WellTyped.quantified_types n fresh h) = (n, fresh, h)
 
   length_opened : (k : ℕ) (o : Opening) (bs : List Binder) → length (open_binders k o bs) ≡ length bs
   length_opened k o [] = refl
@@ -82,7 +84,7 @@ module _ (symbols : List Symbol) where
       let l : length (open_binders 0 o bs) ≡ n = omega (arith, length_opened 0 o bs, e) in
       let ih = swapped_prenex n (open_binders 0 o bs) l (open_at (0 + length bs) o f) (open_at (0 + length bs) o g) (swapped_opened (0 + length bs) o s)
       (subst (WellTyped symbols) (open_prenex 0 o bs f) x.2) in
-      WellTyped.for_all_types x.0 (swapped_each_prenex (IsNot x.0) bs s x.1) (subst (WellTyped symbols) (sym (open_prenex 0 o bs g)) ih)
+      WellTyped.quantified_types x.0 (swapped_each_prenex (IsNot x.0) bs s x.1) (subst (WellTyped symbols) (sym (open_prenex 0 o bs g)) ih)
   swapped_prenex (suc n) (Binder.of_term t ∷ bs) e f g s w =
       let x = under_term w in
       let o : Opening = Opening.of_term (Term.eps x.0 t) in
@@ -155,7 +157,7 @@ module _ (symbols : List Symbol) (bs : List Binder) where
   equivalence_sound (Form.negation f) g w x y = tt
   equivalence_sound (Form.binary c f h) g w x y = tt
   equivalence_sound (Form.quantified q t f) g w x y = tt
-  equivalence_sound (Form.for_all_types f) g w x y = tt
+  equivalence_sound (Form.quantified_types q f) g w x y = tt
 
   readings_sound : (f : Form) → WellTyped symbols (prenex bs f) → EachIn Never f → EachRule (IsSoundReading symbols) (body_readings bs f)
   readings_sound (Form.equal t a b) w x =
@@ -175,7 +177,8 @@ free_body (Form.negation f) e = e
 free_body (Form.binary c f g) e = e
 free_body (Form.quantified Quantifier.universal t f) e = free_body f e.1
 free_body (Form.quantified Quantifier.existential t f) e = e
-free_body (Form.for_all_types f) e = free_body f e
+free_body (Form.quantified_types Quantifier.universal f) e = free_body f e
+free_body (Form.quantified_types Quantifier.existential f) e = e
 
 -- the rule that a well typed premise without parameters makes is sound
 rule_is_sound : (symbols : List Symbol) (p : Premise) (r : Rule) → IsProblemForm symbols p.form → IsRule p r → IsSound symbols r

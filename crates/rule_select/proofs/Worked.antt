@@ -4,10 +4,10 @@ use Rattle.zm_logic.specs.Tree.{Ty, Tys, Term, Terms, Form, Connective, Opening,
 use Rattle.zm_logic.specs.Opening.{open_at, type_instance, types_instance}
 use Rattle.zm_logic.specs.Index.{side_has}
 use Rattle.zm_logic.specs.Typing.{individual}
-use Rattle.zm_logic.specs.Rewriting.{Fit}
+use Rattle.zm_logic.specs.Rewriting.{IsRedex, Fit}
 use Rattle.rule_select.specs.Reading.{term_rule, form_rule}
 use Rattle.rule_select.specs.Part.{IsPart, IsPartOfSome}
-use Rattle.rule_select.specs.Lawful.{IsRedex, IsLawful, FirstLawful}
+use Rattle.rule_select.specs.Lawful.{IsLawful, FirstLawful}
 use Rattle.rule_select.specs.Selection.{Sorts}
 use Rattle.rule_select.specs.Worked as worked
 use Rattle.rule_select.proofs.Instances.{term_instance, terms_instance, side_of_term, side_of_form, app_instance, atom_instance, equal_instance}
@@ -21,7 +21,7 @@ EachAtomic A E (Form.equal t a b) = E
 EachAtomic A E (Form.negation f) = EachAtomic A E f
 EachAtomic A E (Form.binary c f g) = EachAtomic A E f × EachAtomic A E g
 EachAtomic A E (Form.quantified q t f) = EachAtomic A E f
-EachAtomic A E (Form.for_all_types f) = EachAtomic A E f
+EachAtomic A E (Form.quantified_types q f) = EachAtomic A E f
 
 abbrev EachAtomicIn : (ℕ → Type 0) → Type 0 → Side → Type 0
 EachAtomicIn A E (Side.of_term a) = Unit {0}
@@ -36,7 +36,7 @@ module _ (A : ℕ → Type 0) (E : Type 0) where
   atomic_opened k o (Form.negation f) h = atomic_opened k o f h
   atomic_opened k o (Form.binary c f g) h = (atomic_opened k o f h.0, atomic_opened k o g h.1)
   atomic_opened k o (Form.quantified q t f) h = atomic_opened (k + 1) o f h
-  atomic_opened k o (Form.for_all_types f) h = atomic_opened (k + 1) o f h
+  atomic_opened k o (Form.quantified_types q f) h = atomic_opened (k + 1) o f h
 
   -- what holds in a side holds in its parts
   mutual
@@ -51,7 +51,7 @@ module _ (A : ℕ → Type 0) (E : Type 0) where
     atomic_part (IsPart.of_second p) h = atomic_part p h.1
     atomic_part (IsPart.of_quantified {t = t} {f = f} n fresh p) h =
         atomic_part p (atomic_opened 0 (Opening.of_term (Term.eps n t)) f h)
-    atomic_part (IsPart.of_for_all_types {f = f} n fresh p) h =
+    atomic_part (IsPart.of_quantified_types {f = f} n fresh p) h =
         atomic_part p (atomic_opened 0 (Opening.of_type (Ty.param n)) f h)
 
     atomic_some : {x : Side} {us : Terms} → IsPartOfSome x us → EachAtomicIn A E x

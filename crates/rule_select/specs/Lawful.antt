@@ -3,13 +3,9 @@ use Rattle.std.specs.Prelude.{ℕ, ◌<◌, ◌≡◌, ◌≢◌, ◌⊎◌, tru
 use Rattle.zm_logic.specs.Tree.{Ty, Term, Opening, Binder, Side, Rule, Role, Premise}
 use Rattle.zm_logic.specs.Opening.{type_instance, side_instance}
 use Rattle.zm_logic.specs.Index.{side_has}
-use Rattle.zm_logic.specs.Rewriting.{Fit}
+use Rattle.zm_logic.specs.Rewriting.{IsRedex}
 use Rattle.rule_select.specs.Reading.{readings}
 use Rattle.rule_select.specs.Part.{IsPart}
-
--- x is an instance of the rule's left side
-abbrev pub IsRedex : Rule → Side → Type 0
-IsRedex r x = (parts : List Opening) × Fit parts r.binders × (side_instance parts r.left ≡ x)
 
 -- a parameter for each of the binders that follow those with the given parameters: its number is the binder's index, and
 -- it has the binder's type at the parameters before it

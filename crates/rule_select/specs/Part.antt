@@ -17,8 +17,8 @@ mutual
     of_second : {c : Connective} {f g : Form} → IsPart x (Side.of_form g) → IsPart x (Side.of_form (Form.binary c f g))
     of_quantified : {q : Quantifier} {t : Ty} {f : Form} (n : ℕ) → IsFresh n (Form.quantified q t f)
         → IsPart x (Side.of_form (at_term f (Term.eps n t))) → IsPart x (Side.of_form (Form.quantified q t f))
-    of_for_all_types : {f : Form} (n : ℕ) → IsFresh n (Form.for_all_types f)
-        → IsPart x (Side.of_form (at_type f (Ty.param n))) → IsPart x (Side.of_form (Form.for_all_types f))
+    of_quantified_types : {q : Quantifier} {f : Form} (n : ℕ) → IsFresh n (Form.quantified_types q f)
+        → IsPart x (Side.of_form (at_type f (Ty.param n))) → IsPart x (Side.of_form (Form.quantified_types q f))
 
   -- x is a part of one of the terms
   pub data IsPartOfSome (x : Side) : Terms → Type 0 where

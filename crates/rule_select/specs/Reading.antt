@@ -5,7 +5,7 @@ use Rattle.zm_logic.specs.Tree.{Ty, Term, Form, Connective, Quantifier, Binder, 
 -- the binders of the universal quantifiers at the front of a formula, the outermost first
 abbrev pub front : Form → List Binder
 front (Form.quantified Quantifier.universal t f) = Binder.of_term t ∷ front f
-front (Form.for_all_types f) = Binder.of_type ∷ front f
+front (Form.quantified_types Quantifier.universal f) = Binder.of_type ∷ front f
 front _ = []
 
 -- the body of a formula: what follows them
@@ -18,7 +18,8 @@ body (Form.negation f) = Form.negation f
 body (Form.binary c f g) = Form.binary c f g
 body (Form.quantified Quantifier.universal t f) = body f
 body (Form.quantified Quantifier.existential t f) = Form.quantified Quantifier.existential t f
-body (Form.for_all_types f) = body f
+body (Form.quantified_types Quantifier.universal f) = body f
+body (Form.quantified_types Quantifier.existential f) = Form.quantified_types Quantifier.existential f
 
 -- the term is a variable
 abbrev pub is_variable : Term → Bool

@@ -1,6 +1,6 @@
 -- Worked examples. Each statement is the contract of a function of the module laws.
 use Rattle.std.specs.Prelude.{ℕ, Some, None, List, [], ◌∷◌}
-use Rattle.zm_logic.specs.Tree.{Ty, Tys, Term, Terms, Form, Connective, Binder, Role, Premise, iff, for_all}
+use Rattle.zm_logic.specs.Tree.{Ty, Tys, Term, Terms, Form, Connective, Binder, Role, Premise, iff, for_all, for_all_types}
 use Rattle.zm_logic.specs.Typing.{individual}
 use Rattle.zm_logic.specs.Problem.{prenex}
 use Rattle.rule_select.specs.Reading.{term_rule, form_rule}
@@ -73,7 +73,7 @@ equality_at t = for_all t (for_all t (iff (Form.equal t (Term.bound 1) (Term.bou
 
 abbrev pub equality_at_variable : Form
 equality_at_variable =
-    Form.for_all_types
+    for_all_types
     (for_all (Ty.bound 0) (for_all (Ty.bound 1) (iff (Form.equal (Ty.bound 2) (Term.bound 1) (Term.bound 0)) (predicate 2))))
 
 abbrev pub constant_type : Ty

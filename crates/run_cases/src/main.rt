@@ -1,5 +1,5 @@
-//! Whole runs of Zenon Modulo, over the tables `runs` and `first_order`: each case gives the words of a command, a source, a
-//! library and what calls of them fail, and says with which status the run ends and what it writes.
+//! Whole runs of Zenon Modulo, over the tables `runs`, `first_order` and `type_quantifiers`: each case gives the words of a
+//! command, a source, a library and what calls of them fail, and says with which status the run ends and what it writes.
 //!
 //! Each difference is printed, and how many cases of each table hold. The exit status is 0 where all do, and else 1.
 #![tactic(auto)]
@@ -21,5 +21,11 @@ fn main(rt: HostRuntime) -> ExitCode {
             name: "first_order",
         },
     );
-    ExitCode::from(u8::from(!(plain && first_order)))
+    let types = table_holds(
+        &rt,
+        &Runs {
+            name: "type_quantifiers",
+        },
+    );
+    ExitCode::from(u8::from(!(plain && first_order && types)))
 }

@@ -49,7 +49,7 @@ leaves_pos false (Form.binary Connective.implication f g) = times (leaves_as tru
 leaves_pos true (Form.binary Connective.equivalence f g) = let p = times (leaves_as true f) (leaves_as true g) (leaves_pos true f) (leaves_pos true g) in omega arith
 leaves_pos false (Form.binary Connective.equivalence f g) = let p = times (leaves_as true f) (leaves_as false g) (leaves_pos true f) (leaves_pos false g) in omega arith
 leaves_pos v (Form.quantified q t f) = omega arith
-leaves_pos v (Form.for_all_types f) = omega arith
+leaves_pos v (Form.quantified_types q f) = omega arith
 
 -- more of the branch settles more
 pub all_more : (s s' fs : List Form) → IsWithin s s' → has_all s fs ≡ true → has_all s' fs ≡ true

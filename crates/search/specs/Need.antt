@@ -17,7 +17,7 @@ weight (Form.equal t a b) = 0
 weight (Form.negation f) = 1 + weight f
 weight (Form.binary c f g) = connective_weight c + (weight f + weight g)
 weight (Form.quantified q t f) = 0
-weight (Form.for_all_types f) = 0
+weight (Form.quantified_types q f) = 0
 
 -- How many branches a formula, or its negation (false), comes to: 1 for a literal; for an alpha formula the product over
 -- the formulas of its child, for a beta formula the sum of these products over its children.
@@ -37,7 +37,7 @@ leaves_as false (Form.binary Connective.implication f g) = leaves_as true f * le
 leaves_as true (Form.binary Connective.equivalence f g) = leaves_as true f * leaves_as true g + leaves_as false f * leaves_as false g
 leaves_as false (Form.binary Connective.equivalence f g) = leaves_as true f * leaves_as false g + leaves_as false f * leaves_as true g
 leaves_as v (Form.quantified q t f) = 1
-leaves_as v (Form.for_all_types f) = 1
+leaves_as v (Form.quantified_types q f) = 1
 
 abbrev pub leaves : Form → ℕ
 leaves f = leaves_as true f

@@ -53,7 +53,8 @@ fn form_weight(form: &Form) -> u128
         | Form::Equal(_, _, _)
         | Form::All(_, _)
         | Form::Ex(_, _)
-        | Form::AllType(_) => 0,
+        | Form::AllType(_)
+        | Form::ExType(_) => 0,
     }
 }
 
@@ -144,6 +145,7 @@ fn leaves(form: &Form) -> Counts
         | Form::Equal(_, _, _)
         | Form::All(_, _)
         | Form::Ex(_, _)
-        | Form::AllType(_) => Counts { holds: 1, fails: 1 },
+        | Form::AllType(_)
+        | Form::ExType(_) => Counts { holds: 1, fails: 1 },
     }
 }

@@ -63,7 +63,8 @@ fn as_denied_split(store: &Store, form: FormId) -> Option<Split>
         | FormNode::Equal(_, _, _)
         | FormNode::All(_, _)
         | FormNode::Ex(_, _)
-        | FormNode::AllType(_) => None,
+        | FormNode::AllType(_)
+        | FormNode::ExType(_) => None,
     }
 }
 
@@ -89,6 +90,7 @@ pub(crate) fn as_split(store: &Store, form: FormId) -> Option<Split>
         | FormNode::Equal(_, _, _)
         | FormNode::All(_, _)
         | FormNode::Ex(_, _)
-        | FormNode::AllType(_) => None,
+        | FormNode::AllType(_)
+        | FormNode::ExType(_) => None,
     }
 }

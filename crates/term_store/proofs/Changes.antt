@@ -187,9 +187,10 @@ module _ (k : ℕ) where
   changed_quantified (TreeChange.opens o) q t f = refl
   changed_quantified (TreeChange.closes m) q t f = refl
 
-  pub changed_for_all_types : (c : TreeChange) (f : tree.Form) → changed_form k c (tree.Form.for_all_types f) ≡ tree.Form.for_all_types (changed_form (k + 1) c f)
-  changed_for_all_types (TreeChange.opens o) f = refl
-  changed_for_all_types (TreeChange.closes m) f = refl
+  pub changed_quantified_types : (c : TreeChange) (q : tree.Quantifier) (f : tree.Form)
+      → changed_form k c (tree.Form.quantified_types q f) ≡ tree.Form.quantified_types q (changed_form (k + 1) c f)
+  changed_quantified_types (TreeChange.opens o) q f = refl
+  changed_quantified_types (TreeChange.closes m) q f = refl
 
   -- lists, one further
   changed_with_type : (c : TreeChange) (ts : tree.Tys) (t : tree.Ty) → changed_types k c (with_type ts t) ≡ with_type (changed_types k c ts) (changed_type k c t)

@@ -117,6 +117,7 @@ form_same (form.All t f) (form.All u g) e =
 form_same (form.Ex t f) (form.Ex u g) e =
     let z = and_parts (nat_eq t.0 u.0) (nat_eq f.0 g.0) e in let x = types t u z.0 in let y = forms f g z.1 in cc
 form_same (form.AllType f) (form.AllType g) e = ap form.AllType (forms f g e)
+form_same (form.ExType f) (form.ExType g) e = ap form.ExType (forms f g e)
 form_same _ _ e = absurd (true≢false (sym e))
 
 pub form_self : (a : FormNode) → form_eq a a ≡ true
@@ -132,3 +133,4 @@ form_self (form.Iff f g) = rw (itself f.0, itself g.0) refl
 form_self (form.All t f) = rw (itself t.0, itself f.0) refl
 form_self (form.Ex t f) = rw (itself t.0, itself f.0) refl
 form_self (form.AllType f) = itself f.0
+form_self (form.ExType f) = itself f.0

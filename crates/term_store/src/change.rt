@@ -105,7 +105,20 @@ impl Store {
                 change,
             ),
             FormNode::Ex(ty, f) => self.change_quantified(memo, Quantifier::Ex, ty, f, at, change),
-            FormNode::AllType(f) => self.change_all_type(memo, f, at, change),
+            FormNode::AllType(f) => self.change_quantified_types(
+                memo,
+                Quantifier::All,
+                f,
+                at,
+                change,
+            ),
+            FormNode::ExType(f) => self.change_quantified_types(
+                memo,
+                Quantifier::Ex,
+                f,
+                at,
+                change,
+            ),
         }
     }
 
@@ -222,9 +235,10 @@ impl Store {
     }
 
     #[cycle(change_form)]
-    fn change_all_type(
+    fn change_quantified_types(
         &mut self,
         memo: &mut Memo,
+        quantifier: Quantifier,
         f: FormId,
         at: u32,
         change: &Change,
@@ -233,13 +247,13 @@ impl Store {
         requires part { HasChange self.old change.now }
         requires room { at + 1 + depth (form_of self.old f) ≤ 2000 }
         requires knows { Knows self.old change.now memo.old }
-        ensures made { IfOk result (IsFormId self.new (tree_after self.old change.now at (tree.Form.for_all_types (form_of self.old f)))) }
-        ensures deep { IfErr result (IfTooDeep (2000 < depth (tree_after self.old change.now at (tree.Form.for_all_types (form_of self.old f))))) }
+        ensures made { IfOk result (IsFormId self.new (tree_after self.old change.now at (tree.Form.quantified_types (quantifier_of quantifier) (form_of self.old f)))) }
+        ensures deep { IfErr result (IfTooDeep (2000 < depth (tree_after self.old change.now at (tree.Form.quantified_types (quantifier_of quantifier) (form_of self.old f))))) }
         ensures kept { Extends self.old self.new }
         ensures knows { OnOk result (Knows self.new change.now memo.new) }
     {
         let f = self.change_form(memo, f, at + 1, change)?;
-        self.put_all_type(f)
+        self.put_quantified_types(quantifier, f)
     }
 
     #[cycle(change_form)]

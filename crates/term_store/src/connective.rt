@@ -20,7 +20,7 @@ pub(crate) enum Connective {
     Iff,
 }
 
-/// A quantifier over terms.
+/// A quantifier, over terms or over types.
 #[derive(Clone, Copy)]
 pub(crate) enum Quantifier {
     All,
@@ -37,16 +37,6 @@ impl Store {
         ensures bounded { OnOk result (depth (tree.Form.negation (form_of self.old f)) ≤ 2000) }
     {
         self.put_form(FormNode::Not(f))
-    }
-
-    pub(crate) fn put_all_type(&mut self, f: FormId) -> Result<FormId, EnterFault>
-        requires { HasForm self.old f }
-        ensures made { IfOk result (IsFormId self.new (tree.Form.for_all_types (form_of self.old f))) }
-        ensures deep { IfErr result (IfTooDeep (2000 < depth (tree.Form.for_all_types (form_of self.old f)))) }
-        ensures kept { Extends self.old self.new }
-        ensures bounded { OnOk result (depth (tree.Form.for_all_types (form_of self.old f)) ≤ 2000) }
-    {
-        self.put_form(FormNode::AllType(f))
     }
 
     pub(crate) fn put_binary(
@@ -86,6 +76,23 @@ impl Store {
         match q {
             Quantifier::All => self.put_form(FormNode::All(ty, f)),
             Quantifier::Ex => self.put_form(FormNode::Ex(ty, f)),
+        }
+    }
+
+    pub(crate) fn put_quantified_types(
+        &mut self,
+        q: Quantifier,
+        f: FormId,
+    ) -> Result<FormId, EnterFault>
+        requires { HasForm self.old f }
+        ensures made { IfOk result (IsFormId self.new (tree.Form.quantified_types (quantifier_of q) (form_of self.old f))) }
+        ensures deep { IfErr result (IfTooDeep (2000 < depth (tree.Form.quantified_types (quantifier_of q) (form_of self.old f)))) }
+        ensures kept { Extends self.old self.new }
+        ensures bounded { OnOk result (depth (tree.Form.quantified_types (quantifier_of q) (form_of self.old f)) ≤ 2000) }
+    {
+        match q {
+            Quantifier::All => self.put_form(FormNode::AllType(f)),
+            Quantifier::Ex => self.put_form(FormNode::ExType(f)),
         }
     }
 }

@@ -72,6 +72,7 @@ impl FormNode {
             FormNode::All(ty, f) => FormNode::All(*ty, *f),
             FormNode::Ex(ty, f) => FormNode::Ex(*ty, *f),
             FormNode::AllType(f) => FormNode::AllType(*f),
+            FormNode::ExType(f) => FormNode::ExType(*f),
         })
     }
 }

@@ -121,7 +121,7 @@ pub(crate) fn form_depth_of(
             let sides = greater(bounded_at(terms, left.0), bounded_at(terms, right.0));
             1 + greater(bounded_at(types, ty.0), sides)
         }
-        FormNode::Not(f) | FormNode::AllType(f) => 1 + bounded_at(forms, f.0),
+        FormNode::Not(f) | FormNode::AllType(f) | FormNode::ExType(f) => 1 + bounded_at(forms, f.0),
         FormNode::And(f, g) | FormNode::Or(f, g) | FormNode::Imp(f, g) | FormNode::Iff(f, g) => {
             1 + greater(bounded_at(forms, f.0), bounded_at(forms, g.0))
         }

@@ -220,7 +220,8 @@ impl Store {
             Form::Iff(f, g) => self.enter_binary(Connective::Iff, f, g, left),
             Form::All(ty, f) => self.enter_quantified(Quantifier::All, ty, f, left),
             Form::Ex(ty, f) => self.enter_quantified(Quantifier::Ex, ty, f, left),
-            Form::AllType(f) => self.enter_all_type(f, left),
+            Form::AllType(f) => self.enter_quantified_types(Quantifier::All, f, left),
+            Form::ExType(f) => self.enter_quantified_types(Quantifier::Ex, f, left),
         }
     }
 
@@ -308,15 +309,20 @@ impl Store {
     }
 
     #[cycle(enter_form)]
-    fn enter_all_type(&mut self, f: &Boxed<Form>, room: u64) -> Result<FormId, EnterFault>
+    fn enter_quantified_types(
+        &mut self,
+        quantifier: Quantifier,
+        f: &Boxed<Form>,
+        room: u64,
+    ) -> Result<FormId, EnterFault>
         requires { room < 2000 }
-        ensures made { IfOk result (IsFormId self.new (tree.Form.for_all_types (form_tree f.now))) }
-        ensures fits { OnOk result (depth (tree.Form.for_all_types (form_tree f.now)) ≤ room + 1) }
-        ensures deep { IfErr result (IfTooDeep (room + 1 < depth (tree.Form.for_all_types (form_tree f.now)))) }
+        ensures made { IfOk result (IsFormId self.new (tree.Form.quantified_types (quantifier_of quantifier) (form_tree f.now))) }
+        ensures fits { OnOk result (depth (tree.Form.quantified_types (quantifier_of quantifier) (form_tree f.now)) ≤ room + 1) }
+        ensures deep { IfErr result (IfTooDeep (room + 1 < depth (tree.Form.quantified_types (quantifier_of quantifier) (form_tree f.now)))) }
         ensures kept { Extends self.old self.new }
     {
         let f = self.enter_form(f.get(), room)?;
-        self.put_all_type(f)
+        self.put_quantified_types(quantifier, f)
     }
 
     #[cycle(enter_form)]

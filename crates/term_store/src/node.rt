@@ -49,4 +49,6 @@ pub enum FormNode {
     Ex(TyId, FormId),
     /// For all types.
     AllType(FormId),
+    /// There is a type.
+    ExType(FormId),
 }

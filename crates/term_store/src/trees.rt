@@ -93,7 +93,8 @@ impl Store {
             FormNode::Iff(f, g) => self.binary_tree(Connective::Iff, *f, *g),
             FormNode::All(ty, f) => self.quantified_tree(Quantifier::All, *ty, *f),
             FormNode::Ex(ty, f) => self.quantified_tree(Quantifier::Ex, *ty, *f),
-            FormNode::AllType(f) => self.all_type_tree(*f),
+            FormNode::AllType(f) => self.quantified_types_tree(Quantifier::All, *f),
+            FormNode::ExType(f) => self.quantified_types_tree(Quantifier::Ex, *f),
         }
     }
 
@@ -166,12 +167,16 @@ impl Store {
     }
 
     #[cycle(boxed_tree)]
-    fn all_type_tree(&self, f: FormId) -> Result<Boxed<Form>, AllocError>
+    fn quantified_types_tree(
+        &self,
+        quantifier: Quantifier,
+        f: FormId,
+    ) -> Result<Boxed<Form>, AllocError>
         requires { HasForm self.now f }
-        ensures { IfOk result (λ g. form_tree g ≡ tree.Form.for_all_types (form_of self.now f)) }
+        ensures { IfOk result (λ g. form_tree g ≡ tree.Form.quantified_types (quantifier_of quantifier) (form_of self.now f)) }
     {
         let f = self.boxed_tree(f)?;
-        boxed(self.global(), Form::AllType(f))
+        bound_types(self.global(), quantifier, f)
     }
 }
 
@@ -213,6 +218,22 @@ fn bound(
         match quantifier {
             Quantifier::All => Form::All(ty, f),
             Quantifier::Ex => Form::Ex(ty, f),
+        },
+    )
+}
+
+fn bound_types(
+    alloc: Global,
+    quantifier: Quantifier,
+    f: Boxed<Form>,
+) -> Result<Boxed<Form>, AllocError>
+    ensures { IfOk result (λ h. form_tree h ≡ tree.Form.quantified_types (quantifier_of quantifier) (form_tree f)) }
+{
+    boxed(
+        alloc,
+        match quantifier {
+            Quantifier::All => Form::AllType(f),
+            Quantifier::Ex => Form::ExType(f),
         },
     )
 }

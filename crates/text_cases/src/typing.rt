@@ -183,7 +183,6 @@ fn write_fault(line: &mut String, symbols: &Symbols, fault: &Fault) -> Result<()
         Fault::Arity => line.push_str(" arity"),
         Fault::NotAType => line.push_str(" not a type"),
         Fault::NotATerm => line.push_str(" not a term"),
-        Fault::TypeQuantifier => line.push_str(" type quantifier"),
         Fault::Mismatch { wanted, got } => write_mismatch(line, symbols, wanted, got),
     }
 }

@@ -29,10 +29,10 @@ expressions_agree table s place u x after = (
       (record { tree = x; table = after }) h,
 )
 
-pub forms_agree : (table : Table) (s : Scope) (front : Bool) (f : RawForm) (g : Form) (after : Table)
-    → DenotesForm table s front f g after ↔ (form_in table s front f ≡ Ok (record { tree = g; table = after }))
-forms_agree table s front f g after =
-    (form_given table s front f g after, λ h. form_holds table s front f (record { tree = g; table = after }) h)
+pub forms_agree : (table : Table) (s : Scope) (f : RawForm) (g : Form) (after : Table)
+    → DenotesForm table s f g after ↔ (form_in table s f ≡ Ok (record { tree = g; table = after }))
+forms_agree table s f g after =
+    (form_given table s f g after, λ h. form_holds table s f (record { tree = g; table = after }) h)
 
 pub statements_agree : (state after : State) (s : RawStatement)
     → MakesState state s after ↔ (statement_in state s ≡ Ok after)

@@ -193,7 +193,7 @@ bound_form symbols s v q f ok Binder.of_type b i h =
     let r = form_rebound n o (IsInScope (v ∷ s)) (IsLeft s) (rebinds_type symbols s v ok b) 0 f h.each h.closed in
     let e = each (IsLeft s) (IsInScope s) (λ p x. x.0) (close f n) r.each in
     let fresh = each (IsLeft s) (IsNot n) (λ p x. x.1) (close f n) r.each in
-    record { typed = WellTyped.for_all_types n fresh (rw r.back h.typed); each = e; closed = r.closed }
+    record { typed = WellTyped.quantified_types n fresh (rw r.back h.typed); each = e; closed = r.closed }
 bound_form symbols s v q f ok (Binder.of_term t) b i h =
     let n = length s in
     let o = Opening.of_term (Term.eps n t) in

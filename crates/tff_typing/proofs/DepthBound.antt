@@ -33,7 +33,7 @@ flat_depth (Form.equal t a b) = 1 + max (type_depth t) (max (flat a) (flat b))
 flat_depth (Form.negation f) = 1 + flat_depth f
 flat_depth (Form.binary c f g) = 1 + max (flat_depth f) (flat_depth g)
 flat_depth (Form.quantified q t f) = 1 + max (type_depth t) (flat_depth f)
-flat_depth (Form.for_all_types f) = 1 + flat_depth f
+flat_depth (Form.quantified_types q f) = 1 + flat_depth f
 
 -- closing keeps that depth
 module _ (n : ℕ) where
@@ -75,7 +75,7 @@ module _ (n : ℕ) where
   close_flat_depth k (Form.negation f) = ap (λ d. 1 + d) (close_flat_depth k f)
   close_flat_depth k (Form.binary c f g) = cc (close_flat_depth k f, close_flat_depth k g)
   close_flat_depth k (Form.quantified q t f) = cc (close_type_depth k t, close_flat_depth (k + 1) f)
-  close_flat_depth k (Form.for_all_types f) = ap (λ d. 1 + d) (close_flat_depth (k + 1) f)
+  close_flat_depth k (Form.quantified_types q f) = ap (λ d. 1 + d) (close_flat_depth (k + 1) f)
 
 -- without parameters it is the depth
 mutual
@@ -97,7 +97,7 @@ ground_depth (Form.equal t a b) e = cc (ground_flat a e.1, ground_flat b e.2)
 ground_depth (Form.negation f) e = ap (λ d. 1 + d) (ground_depth f e)
 ground_depth (Form.binary c f g) e = cc (ground_depth f e.0, ground_depth g e.1)
 ground_depth (Form.quantified q t f) e = cc (ground_depth f e.1)
-ground_depth (Form.for_all_types f) e = ap (λ d. 1 + d) (ground_depth f e)
+ground_depth (Form.quantified_types q f) e = ap (λ d. 1 + d) (ground_depth f e)
 
 -- the depth of a type where an index counts d
 module _ (d : ℕ) where

@@ -16,7 +16,7 @@ use Rattle.tff_typing.specs.Scope.{Scope, Variable, Bound, look_up, binder_of}
 use Rattle.tff_typing.specs.Table.{Table, Numbered, Place, symbols_of, arity, declared, used, undeclared, sense_at, individuals_of, with_entry, most_symbols}
 use Rattle.tff_typing.specs.Fault.{Fault, found_type, Outcome, ◌>>=◌}
 use Rattle.tff_typing.specs.Places.{type_in, types_in, Use, if_symbol, new_symbol, used_or_new, declared_or_used, symbol_for, Expression, applied, if_term, term_variable, wanted, as_formula, first}
-use Rattle.tff_typing.specs.Typing.{Typed, gives, unchanged, expression_in, terms_in, left_side, equality_in, type_quantifier, binder_in, bind, is_universal, form_in}
+use Rattle.tff_typing.specs.Typing.{Typed, gives, unchanged, expression_in, terms_in, left_side, equality_in, binder_in, bind, form_in}
 use Rattle.tff_typing.proofs.Outcomes.{both_ok, ok_same, no_ok, test_held}
 use Rattle.tff_typing.proofs.Lookups.{looked_up}
 use Rattle.zm_logic.proofs.TypeInstances.{how_many_instance}
@@ -287,12 +287,6 @@ written_binder table s t b l h =
     let i = written_type_depth table s t a.0 a.1 in
     subst (λ (x : Binder). IsShallowBinder x) (ok_same (Binder.of_term a.0) b a.2) (omega arith)
 
-quantifier_binder : (q : Quantifier) (front : Bool) (b : Binder) → type_quantifier q front ≡ Ok b → IsShallowBinder b
-quantifier_binder Quantifier.universal true b h =
-    subst (λ (x : Binder). IsShallowBinder x) (ok_same Binder.of_type b h) tt
-quantifier_binder Quantifier.universal false b h = absurd (no_ok _ b h)
-quantifier_binder Quantifier.existential front b h = absurd (no_ok _ b h)
-
 abbrev an_individual : Outcome Binder
 an_individual = Ok (Binder.of_term individual)
 
@@ -300,15 +294,15 @@ individual_binder : (b : Binder) → an_individual ≡ Ok b → IsShallowBinder 
 individual_binder b h =
     subst (λ (x : Binder). IsShallowBinder x) (ok_same (Binder.of_term individual) b h) (omega arith)
 
-binder_depth : (table : Table) (s : Scope) (q : Quantifier) (front : Bool) (o : Option RawType) (b : Binder)
+binder_depth : (table : Table) (s : Scope) (o : Option RawType) (b : Binder)
     → written_depth o ≤ 201
-    → binder_in table s q front o ≡ Ok b → IsShallowBinder b
-binder_depth table s q front None b l h = individual_binder b h
-binder_depth table s q front (Some RawType.kind) b l h = quantifier_binder q front b h
-binder_depth table s q front (Some RawType.individual) b l h = individual_binder b h
-binder_depth table s q front (Some RawType.truth) b l h = absurd (no_ok _ b h)
-binder_depth table s q front (Some (RawType.variable x)) b l h = written_binder table s (RawType.variable x) b l h
-binder_depth table s q front (Some (RawType.named c ts)) b l h = written_binder table s (RawType.named c ts) b l h
+    → binder_in table s o ≡ Ok b → IsShallowBinder b
+binder_depth table s None b l h = individual_binder b h
+binder_depth table s (Some RawType.kind) b l h = subst (λ (x : Binder). IsShallowBinder x) (ok_same Binder.of_type b h) tt
+binder_depth table s (Some RawType.individual) b l h = individual_binder b h
+binder_depth table s (Some RawType.truth) b l h = absurd (no_ok _ b h)
+binder_depth table s (Some (RawType.variable x)) b l h = written_binder table s (RawType.variable x) b l h
+binder_depth table s (Some (RawType.named c ts)) b l h = written_binder table s (RawType.named c ts) b l h
 
 bound_depth : (q : Quantifier) (b : Binder) (n k w : ℕ) (f : Form) → IsShallowBinder b → flat_depth f ≤ k + 402
     → flat_depth (bind q b n f) ≤ 1 + max w k + 402
@@ -339,53 +333,53 @@ equality_depth table s l r e ok scope shallow small p q h =
     (ok_same (form_of (Form.equal t c.0 g.0) y.table) e g.2)
     (record { tree = omega arith; table = k.table })
 
-pub form_depth : (table : Table) (s : Scope) (front : Bool) (f : RawForm) (e : Typed Form) → IsTable table
+pub form_depth : (table : Table) (s : Scope) (f : RawForm) (e : Typed Form) → IsTable table
     → IsScope (symbols_of table) s → IsShallowTable table
-    → IsShallowScope s → IsNested f → form_in table s front f ≡ Ok e → IsShallowForm (raw_depth f) e
-form_depth table s front RawForm.truth e ok scope shallow small l h =
+    → IsShallowScope s → IsNested f → form_in table s f ≡ Ok e → IsShallowForm (raw_depth f) e
+form_depth table s RawForm.truth e ok scope shallow small l h =
     subst (λ (z : Typed Form). IsShallowForm 1 z) (ok_same (form_of Form.truth table) e h)
     (record { tree = omega arith; table = shallow })
-form_depth table s front RawForm.falsity e ok scope shallow small l h =
+form_depth table s RawForm.falsity e ok scope shallow small l h =
     subst (λ (z : Typed Form). IsShallowForm 1 z) (ok_same (form_of Form.falsity table) e h)
     (record { tree = omega arith; table = shallow })
-form_depth table s front (RawForm.plain u) e ok scope shallow small l h =
+form_depth table s (RawForm.plain u) e ok scope shallow small l h =
     let a = both_ok (expression_in table s Place.formula u) _ e h in
     let x = a.0 in
     let b = both_ok (as_formula x.tree) _ e a.2 in
     let i = expression_depth table s Place.formula u x ok scope shallow small l a.1 in
     subst (λ (z : Typed Form). IsShallowForm (raw_term_depth u) z) (ok_same (form_of b.0 x.table) e b.2)
     (record { tree = atom_depth (raw_term_depth u) x.tree b.0 i.tree b.1; table = i.table })
-form_depth table s front (RawForm.equal a b) e ok scope shallow small l h =
+form_depth table s (RawForm.equal a b) e ok scope shallow small l h =
     equality_depth table s a b e ok scope shallow small l.0 l.1 h
-form_depth table s front (RawForm.negation f) e ok scope shallow small l h =
-    let a = both_ok (form_in table s false f) _ e h in
-    let i = form_depth table s false f a.0 ok scope shallow small l a.1 in
+form_depth table s (RawForm.negation f) e ok scope shallow small l h =
+    let a = both_ok (form_in table s f) _ e h in
+    let i = form_depth table s f a.0 ok scope shallow small l a.1 in
     let t = i.tree in
     subst (λ (z : Typed Form). IsShallowForm (1 + raw_depth f) z)
     (ok_same (form_of (Form.negation a.0.tree) a.0.table) e a.2)
     (record { tree = omega arith; table = i.table })
-form_depth table s front (RawForm.binary c f g) e ok scope shallow small l h =
-    let a = both_ok (form_in table s false f) _ e h in
+form_depth table s (RawForm.binary c f g) e ok scope shallow small l h =
+    let a = both_ok (form_in table s f) _ e h in
     let x = a.0 in
-    let b = both_ok (form_in x.table s false g) _ e a.2 in
+    let b = both_ok (form_in x.table s g) _ e a.2 in
     let y = b.0 in
-    let k = form_sound table s false f x ok scope a.1 in
-    let i = form_depth table s false f x ok scope shallow small l.0 a.1 in
-    let j = form_depth x.table s false g y k.grown.good
+    let k = form_sound table s f x ok scope a.1 in
+    let i = form_depth table s f x ok scope shallow small l.0 a.1 in
+    let j = form_depth x.table s g y k.grown.good
     (scope_kept (symbols_of table) (symbols_of x.table) s k.grown.grows scope) i.table small l.1 b.1 in
     let t = i.tree in
     let u = j.tree in
     subst (λ (z : Typed Form). IsShallowForm (1 + max (raw_depth f) (raw_depth g)) z)
     (ok_same (form_of (Form.binary (connective_of c) x.tree y.tree) y.table) e b.2)
     (record { tree = omega arith; table = j.table })
-form_depth table s front (RawForm.quantified q v f) e ok scope shallow small l h =
-    let a = both_ok (binder_in table s q front v.type) _ e h in
+form_depth table s (RawForm.quantified q v f) e ok scope shallow small l h =
+    let a = both_ok (binder_in table s v.type) _ e h in
     let w : Variable = record { name = v.name; binder = a.0 } in
-    let b = both_ok (form_in table (w ∷ s) (front && is_universal q) f) _ e a.2 in
+    let b = both_ok (form_in table (w ∷ s) f) _ e a.2 in
     let x = b.0 in
-    let binder = binder_is table ok s q front v.type a.0 a.1 in
-    let low = binder_depth table s q front v.type a.0 l.0 a.1 in
-    let i = form_depth table (w ∷ s) (front && is_universal q) f x ok (scope, binder) shallow (low, small) l.1 b.1 in
+    let binder = binder_is table ok s v.type a.0 a.1 in
+    let low = binder_depth table s v.type a.0 l.0 a.1 in
+    let i = form_depth table (w ∷ s) f x ok (scope, binder) shallow (low, small) l.1 b.1 in
     subst (λ (z : Typed Form). IsShallowForm (1 + max (written_depth v.type) (raw_depth f)) z)
     (ok_same (form_of (bind q a.0 (length s) x.tree) x.table) e b.2)
     (record {
@@ -396,10 +390,10 @@ form_depth table s front (RawForm.quantified q v f) e ok scope shallow small l h
 -- a formula of a statement within the limits is a formula of a problem
 pub problem_form : (table : Table) (f : RawForm) (e : Typed Form) → IsTable table → IsShallowTable table → IsNested f
     → raw_depth f ≤ 1000
-    → form_in table [] true f ≡ Ok e → IsProblemForm (symbols_of e.table) e.tree
+    → form_in table [] f ≡ Ok e → IsProblemForm (symbols_of e.table) e.tree
 problem_form table f e ok shallow nested low h =
-    let i = form_sound table [] true f e ok tt h in
+    let i = form_sound table [] f e ok tt h in
     let g = no_parameter (symbols_of e.table) e.tree i.form in
-    let d = form_depth table [] true f e ok tt shallow tt nested h in
+    let d = form_depth table [] f e ok tt shallow tt nested h in
     let t = d.tree in
     record { typed = i.form.typed; parameters = g; shallow = omega (arith, ground_depth e.tree g) }

@@ -12,7 +12,7 @@ use Rattle.tff_typing.specs.Scope.{Scope, Variable, IsInScope}
 use Rattle.tff_typing.specs.Table.{Table, Place, symbols_of}
 use Rattle.tff_typing.specs.Fault.{◌>>=◌}
 use Rattle.tff_typing.specs.Places.{type_in, Expression, wanted, as_formula}
-use Rattle.tff_typing.specs.Typing.{Typed, expression_in, left_side, equality_in, type_quantifier, of_written, binder_in, bind, is_universal, form_in}
+use Rattle.tff_typing.specs.Typing.{Typed, expression_in, left_side, equality_in, of_written, binder_in, bind, form_in}
 use Rattle.tff_typing.proofs.Outcomes.{both_ok, ok_same, no_ok}
 use Rattle.tff_typing.proofs.Extends.{term_kept, joined}
 use Rattle.tff_typing.proofs.Tables.{IsTable}
@@ -38,14 +38,7 @@ atom_is symbols s (Expression.atom p ts us) f ok h =
       closed = (types_closed symbols 0 ts ok.typed.3, terms_closed symbols 0 us _ ok.typed.4);
     })
 
-quantified_type : (symbols : List Symbol) (s : Scope) (q : Quantifier) (front : Bool) (b : Binder)
-    → type_quantifier q front ≡ Ok b → IsBinderIn symbols s b
-quantified_type symbols s Quantifier.universal true b h =
-    subst (λ (x : Binder). IsBinderIn symbols s x) (ok_same Binder.of_type b h) tt
-quantified_type symbols s Quantifier.universal false b h = absurd (no_ok _ b h)
-quantified_type symbols s Quantifier.existential front b h = absurd (no_ok _ b h)
-
-module _ (table : Table) (ok : IsTable table) (s : Scope) (q : Quantifier) (front : Bool) where
+module _ (table : Table) (ok : IsTable table) (s : Scope) where
   written_type : (t : RawType) (b : Binder) → (type_in table s t >>= λ u. Ok (Binder.of_term u)) ≡ Ok b
       → IsBinderIn (symbols_of table) s b
   written_type t b h =
@@ -53,8 +46,8 @@ module _ (table : Table) (ok : IsTable table) (s : Scope) (q : Quantifier) (fron
       subst (λ (x : Binder). IsBinderIn (symbols_of table) s x) (ok_same (Binder.of_term a.0) b a.2)
       (type_sound table s ok.signature t a.0 a.1)
 
-  written_is : (t : RawType) (b : Binder) → of_written table s q front t ≡ Ok b → IsBinderIn (symbols_of table) s b
-  written_is RawType.kind b h = quantified_type (symbols_of table) s q front b h
+  written_is : (t : RawType) (b : Binder) → of_written table s t ≡ Ok b → IsBinderIn (symbols_of table) s b
+  written_is RawType.kind b h = subst (λ (x : Binder). IsBinderIn (symbols_of table) s x) (ok_same Binder.of_type b h) tt
   written_is RawType.individual b h =
       subst (λ (x : Binder). IsBinderIn (symbols_of table) s x) (ok_same (Binder.of_term individual) b h)
       (individual_in (symbols_of table) s)
@@ -62,7 +55,7 @@ module _ (table : Table) (ok : IsTable table) (s : Scope) (q : Quantifier) (fron
   written_is (RawType.variable x) b h = written_type (RawType.variable x) b h
   written_is (RawType.named c ts) b h = written_type (RawType.named c ts) b h
 
-  pub binder_is : (o : Option RawType) (b : Binder) → binder_in table s q front o ≡ Ok b
+  pub binder_is : (o : Option RawType) (b : Binder) → binder_in table s o ≡ Ok b
       → IsBinderIn (symbols_of table) s b
   binder_is None b h =
       subst (λ (x : Binder). IsBinderIn (symbols_of table) s x) (ok_same (Binder.of_term individual) b h)
@@ -109,38 +102,38 @@ equality_sound table s l r e ok scope h =
       };
     })
 
-pub form_sound : (table : Table) (s : Scope) (front : Bool) (f : RawForm) (e : Typed Form) → IsTable table
+pub form_sound : (table : Table) (s : Scope) (f : RawForm) (e : Typed Form) → IsTable table
     → IsScope (symbols_of table) s
-    → form_in table s front f ≡ Ok e → IsFormSound s table e
-form_sound table s front RawForm.truth e ok scope h =
+    → form_in table s f ≡ Ok e → IsFormSound s table e
+form_sound table s RawForm.truth e ok scope h =
     subst (λ (z : Typed Form). IsFormSound s table z) (ok_same (form_of Form.truth table) e h)
     (record { grown = as_it_is table ok; form = record { typed = WellTyped.truth; each = tt; closed = tt } })
-form_sound table s front RawForm.falsity e ok scope h =
+form_sound table s RawForm.falsity e ok scope h =
     subst (λ (z : Typed Form). IsFormSound s table z) (ok_same (form_of Form.falsity table) e h)
     (record { grown = as_it_is table ok; form = record { typed = WellTyped.falsity; each = tt; closed = tt } })
-form_sound table s front (RawForm.plain u) e ok scope h =
+form_sound table s (RawForm.plain u) e ok scope h =
     let a = both_ok (expression_in table s Place.formula u) _ e h in
     let x = a.0 in
     let b = both_ok (as_formula x.tree) _ e a.2 in
     let i = expression_sound table s Place.formula u x ok scope a.1 in
     subst (λ (z : Typed Form). IsFormSound s table z) (ok_same (form_of b.0 x.table) e b.2)
     (record { grown = i.grown; form = atom_is (symbols_of x.table) s x.tree b.0 i.expression b.1 })
-form_sound table s front (RawForm.equal l r) e ok scope h = equality_sound table s l r e ok scope h
-form_sound table s front (RawForm.negation f) e ok scope h =
-    let a = both_ok (form_in table s false f) _ e h in
-    let i = form_sound table s false f a.0 ok scope a.1 in
+form_sound table s (RawForm.equal l r) e ok scope h = equality_sound table s l r e ok scope h
+form_sound table s (RawForm.negation f) e ok scope h =
+    let a = both_ok (form_in table s f) _ e h in
+    let i = form_sound table s f a.0 ok scope a.1 in
     subst (λ (z : Typed Form). IsFormSound s table z) (ok_same (form_of (Form.negation a.0.tree) a.0.table) e a.2)
     (record {
       grown = i.grown;
       form = record { typed = WellTyped.negation i.form.typed; each = i.form.each; closed = i.form.closed };
     })
-form_sound table s front (RawForm.binary c f g) e ok scope h =
-    let a = both_ok (form_in table s false f) _ e h in
+form_sound table s (RawForm.binary c f g) e ok scope h =
+    let a = both_ok (form_in table s f) _ e h in
     let x = a.0 in
-    let b = both_ok (form_in x.table s false g) _ e a.2 in
+    let b = both_ok (form_in x.table s g) _ e a.2 in
     let y = b.0 in
-    let i = form_sound table s false f x ok scope a.1 in
-    let j = form_sound x.table s false g y i.grown.good
+    let i = form_sound table s f x ok scope a.1 in
+    let j = form_sound x.table s g y i.grown.good
     (scope_kept (symbols_of table) (symbols_of x.table) s i.grown.grows scope) b.1 in
     let k = form_in_kept (symbols_of x.table) (symbols_of y.table) s x.tree j.grown.grows i.form in
     subst (λ (z : Typed Form). IsFormSound s table z)
@@ -154,13 +147,13 @@ form_sound table s front (RawForm.binary c f g) e ok scope h =
             closed = (k.closed, j.form.closed);
           };
     })
-form_sound table s front (RawForm.quantified q v f) e ok scope h =
-    let a = both_ok (binder_in table s q front v.type) _ e h in
+form_sound table s (RawForm.quantified q v f) e ok scope h =
+    let a = both_ok (binder_in table s v.type) _ e h in
     let w : Variable = record { name = v.name; binder = a.0 } in
-    let b = both_ok (form_in table (w ∷ s) (front && is_universal q) f) _ e a.2 in
+    let b = both_ok (form_in table (w ∷ s) f) _ e a.2 in
     let x = b.0 in
-    let binder = binder_is table ok s q front v.type a.0 a.1 in
-    let i = form_sound table (w ∷ s) (front && is_universal q) f x ok (scope, binder) b.1 in
+    let binder = binder_is table ok s v.type a.0 a.1 in
+    let i = form_sound table (w ∷ s) f x ok (scope, binder) b.1 in
     let inner = scope_kept (symbols_of table) (symbols_of x.table) (w ∷ s) i.grown.grows (scope, binder) in
     subst (λ (z : Typed Form). IsFormSound s table z) (ok_same (form_of (bind q a.0 (length s) x.tree) x.table) e b.2)
     (record { grown = i.grown; form = bound_form (symbols_of x.table) s w q x.tree inner.0 a.0 refl inner.1 i.form })

@@ -14,7 +14,7 @@ use Rattle.tff_typing.specs.Scope.{Scope, Bound, look_up}
 use Rattle.tff_typing.specs.Table.{Table, Numbered, Place, arity, declared, used, undeclared, with_entry, most_symbols}
 use Rattle.tff_typing.specs.Fault.{found_type, Fault, Outcome, ◌>>=◌}
 use Rattle.tff_typing.specs.Places.{type_variable, if_type, constructor_at, type_in, types_in, Use, if_symbol, new_symbol, used_or_new, declared_or_used, symbol_for, Expression, applied, term_variable, if_term, wanted, as_formula, first}
-use Rattle.tff_typing.specs.Typing.{Typed, gives, unchanged, expression_in, terms_in, left_side, equality_in, binder_in, bind, is_universal, form_in}
+use Rattle.tff_typing.specs.Typing.{Typed, gives, unchanged, expression_in, terms_in, left_side, equality_in, binder_in, bind, form_in}
 use Rattle.tff_typing.specs.Statements.{indexed, all_indexed}
 use Rattle.tff_typing.specs.Indexed.{indexed_term, indexed_terms, indexed_form, indexed_expression, picked, filled, all_filled, if_indexed_term, indexed_variable, Taken, taken_of, taken_if, taken_with, new_taken, used_taken, declared_taken, symbol_at, Head, head_of, applied_at, expression_at, terms_at, side_with, side_of, equality_at, indexed_binder, bind_at, plain_at, form_at}
 use Rattle.tff_typing.proofs.Outcomes.{both_ok, ok_same, no_ok}
@@ -65,7 +65,7 @@ closed_form j n k (Form.binary c f g) e = cc (closed_form j n k f e, closed_form
 closed_form j n k (Form.quantified q t f) e =
     let i : indexed k (close_type j n t) ≡ indexed k t = rw e (closed_type j n t) in
     cc (i, closed_form (j + 1) n (suc k) f (omega (arith, e)))
-closed_form j n k (Form.for_all_types f) e = ap Form.for_all_types (closed_form (j + 1) n (suc k) f (omega (arith, e)))
+closed_form j n k (Form.quantified_types q f) e = ap (Form.quantified_types q) (closed_form (j + 1) n (suc k) f (omega (arith, e)))
 
 -- a tree with no parameter stays as it is
 mutual
@@ -99,7 +99,7 @@ indexed_form_free k (Form.equal t a b) h =
 indexed_form_free k (Form.negation f) h = ap Form.negation (indexed_form_free k f h)
 indexed_form_free k (Form.binary c f g) h = cc (indexed_form_free k f h.0, indexed_form_free k g h.1)
 indexed_form_free k (Form.quantified q t f) h = cc (indexed_free k t h.0, indexed_form_free (suc k) f h.1)
-indexed_form_free k (Form.for_all_types f) h = ap Form.for_all_types (indexed_form_free (suc k) f h)
+indexed_form_free k (Form.quantified_types q f) h = ap (Form.quantified_types q) (indexed_form_free (suc k) f h)
 
 -- types put in one after the other, or all at once
 mutual
@@ -463,7 +463,7 @@ binary_shown k c at inside h (Ok a) = rw (h a.table) (go (inside a.table))
 
 bind_shown : (k : ℕ) (q : Quantifier) (b : Binder) (f : Form)
     → bind_at q (indexed_binder k b) (indexed_form (suc k) f) ≡ indexed_form k (bind q b k f)
-bind_shown k q Binder.of_type f = ap Form.for_all_types (sym (closed_form 0 k (suc k) f (omega arith)))
+bind_shown k q Binder.of_type f = ap (Form.quantified_types (quantifier_of q)) (sym (closed_form 0 k (suc k) f (omega arith)))
 bind_shown k q (Binder.of_term t) f =
     ap (Form.quantified (quantifier_of q) (indexed k t)) (sym (closed_form 0 k (suc k) f (omega arith)))
 
@@ -473,33 +473,33 @@ quantified_shown : (k : ℕ) (q : Quantifier) (b : Binder) (r : Outcome (Typed F
 quantified_shown k q b (Ok g) = rw (bind_shown k q b g.tree) refl
 quantified_shown k q b (Err e) = refl
 
-pub form_shown : (table : Table) (s : Scope) (front : Bool) (f : RawForm)
-    → form_at table s front f ≡ shown_form (length s) (form_in table s front f)
-form_shown table s front RawForm.truth = refl
-form_shown table s front RawForm.falsity = refl
-form_shown table s front (RawForm.plain u) = plain_shown table s u
-form_shown table s front (RawForm.equal a b) = equality_shown table s a b
-form_shown table s front (RawForm.negation f) =
-    rw (form_shown table s false f) (negation_shown (length s) (form_in table s false f))
-form_shown table s front (RawForm.binary c f g) =
-    rw (form_shown table s false f)
-    (binary_shown (length s) (connective_of c) (λ t. form_at t s false g) (λ t. form_in t s false g)
-    (λ t. form_shown t s false g) (form_in table s false f))
-form_shown table s front (RawForm.quantified q v f) =
-    go (binder_in table s q front v.type)
-    (λ b. form_shown table (record { name = v.name; binder = b } ∷ s) (front && is_universal q) f)
+pub form_shown : (table : Table) (s : Scope) (f : RawForm)
+    → form_at table s f ≡ shown_form (length s) (form_in table s f)
+form_shown table s RawForm.truth = refl
+form_shown table s RawForm.falsity = refl
+form_shown table s (RawForm.plain u) = plain_shown table s u
+form_shown table s (RawForm.equal a b) = equality_shown table s a b
+form_shown table s (RawForm.negation f) =
+    rw (form_shown table s f) (negation_shown (length s) (form_in table s f))
+form_shown table s (RawForm.binary c f g) =
+    rw (form_shown table s f)
+    (binary_shown (length s) (connective_of c) (λ t. form_at t s g) (λ t. form_in t s g)
+    (λ t. form_shown t s g) (form_in table s f))
+form_shown table s (RawForm.quantified q v f) =
+    go (binder_in table s v.type)
+    (λ b. form_shown table (record { name = v.name; binder = b } ∷ s) f)
   where
     go : (r : Outcome Binder)
-        → ((b : Binder) → form_at table (record { name = v.name; binder = b } ∷ s) (front && is_universal q) f
+        → ((b : Binder) → form_at table (record { name = v.name; binder = b } ∷ s) f
         ≡ shown_form (suc (length s))
-        (form_in table (record { name = v.name; binder = b } ∷ s) (front && is_universal q) f))
-        → (r >>= λ b. form_at table (record { name = v.name; binder = b } ∷ s) (front && is_universal q) f >>= λ g.
+        (form_in table (record { name = v.name; binder = b } ∷ s) f))
+        → (r >>= λ b. form_at table (record { name = v.name; binder = b } ∷ s) f >>= λ g.
         gives g.table (bind_at q (indexed_binder (length s) b) g.tree))
         ≡ shown_form (length s)
-        (r >>= λ b. form_in table (record { name = v.name; binder = b } ∷ s) (front && is_universal q) f >>= λ g.
+        (r >>= λ b. form_in table (record { name = v.name; binder = b } ∷ s) f >>= λ g.
         gives g.table (bind q b (length s) g.tree))
     go (Err e) h = refl
     go (Ok b) h =
         rw (h b)
         (quantified_shown (length s) q b
-        (form_in table (record { name = v.name; binder = b } ∷ s) (front && is_universal q) f))
+        (form_in table (record { name = v.name; binder = b } ∷ s) f))

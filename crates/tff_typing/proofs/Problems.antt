@@ -186,10 +186,10 @@ formula_typed : (state : State) (x : Name) (role : Option Role) (f : RawForm) (n
     → IsNested f → raw_depth f ≤ 1000
     → IsState next → formula_of state x role f ≡ Ok next → IsTypedState next
 formula_typed state x (Some role) f next ok nested low after h =
-    let a = both_ok (form_in state.table [] true f) _ next h in
+    let a = both_ok (form_in state.table [] f) _ next h in
     let g = a.0 in
-    let i = form_sound state.table [] true f g ok.made.table tt a.1 in
-    let d = form_depth state.table [] true f g ok.made.table tt ok.shallow tt nested a.1 in
+    let i = form_sound state.table [] f g ok.made.table tt a.1 in
+    let d = form_depth state.table [] f g ok.made.table tt ok.shallow tt nested a.1 in
     let p = problem_form state.table f g ok.made.table ok.shallow nested low a.1 in
     let made : Premise = record { name = x; role = role; form = g.tree } in
     let P : Premise → Type 0 = λ q. IsProblemForm (symbols_of g.table) q.form in
@@ -206,14 +206,14 @@ formula_typed state x (Some role) f next ok nested low after h =
     })
 formula_typed state x None f next ok nested low after h = go state.conjecture h
   where
-    go : (o : Option Form) → if_first o (form_in state.table [] true f >>= λ g. Ok (with_conjecture state g)) ≡ Ok next
+    go : (o : Option Form) → if_first o (form_in state.table [] f >>= λ g. Ok (with_conjecture state g)) ≡ Ok next
         → IsTypedState next
     go (Some c) h = absurd (no_ok _ next h)
     go None h =
-        let a = both_ok (form_in state.table [] true f) _ next h in
+        let a = both_ok (form_in state.table [] f) _ next h in
         let g = a.0 in
-        let i = form_sound state.table [] true f g ok.made.table tt a.1 in
-        let d = form_depth state.table [] true f g ok.made.table tt ok.shallow tt nested a.1 in
+        let i = form_sound state.table [] f g ok.made.table tt a.1 in
+        let d = form_depth state.table [] f g ok.made.table tt ok.shallow tt nested a.1 in
         let p = problem_form state.table f g ok.made.table ok.shallow nested low a.1 in
         let e = ok_same (with_conjecture state g) next a.2 in
         subst (λ (y : State). IsTypedState y) e

@@ -10,7 +10,7 @@ use Rattle.tff_typing.specs.Scope.{Scope, Bound, look_up}
 use Rattle.tff_typing.specs.Table.{Table, Numbered, Place, arity, declared, used, undeclared, with_entry, most_symbols}
 use Rattle.tff_typing.specs.Fault.{Outcome, ◌>>=◌}
 use Rattle.tff_typing.specs.Places.{type_variable, constructor_at, type_in, types_in, if_symbol, used_or_new, declared_or_used, symbol_for, Expression, term_variable, wanted, first, rest}
-use Rattle.tff_typing.specs.Typing.{Typed, gives, expression_in, terms_in, of_written, binder_in, is_universal, form_in}
+use Rattle.tff_typing.specs.Typing.{Typed, gives, expression_in, terms_in, of_written, binder_in, form_in}
 use Rattle.tff_typing.specs.Rules.{DenotesType, DenoteTypes, IsNoConstructor, DenotesSymbol, DenotesExpression, DenoteTerms, DenotesWritten, DenotesForm}
 use Rattle.tff_typing.proofs.Tables.{use_of}
 
@@ -129,31 +129,31 @@ mutual
       (then_ok (terms_in middle s 0 types parts) _ (typed others after) _
       (terms_given middle s parts types others after later) refl))
 
-written_given : (table : Table) (s : Scope) (q : Quantifier) (front : Bool) (t : RawType) (u : Ty)
+written_given : (table : Table) (s : Scope) (t : RawType) (u : Ty)
     → DenotesType table s t u
-    → of_written table s q front t ≡ Ok (Binder.of_term u)
-written_given table s q front t u DenotesType.of_individuals = refl
-written_given table s q front t u (DenotesType.type_variable {x = x} h) =
+    → of_written table s t ≡ Ok (Binder.of_term u)
+written_given table s t u DenotesType.of_individuals = refl
+written_given table s t u (DenotesType.type_variable {x = x} h) =
     then_ok (type_in table s (RawType.variable x)) _ u _
     (type_given table s (RawType.variable x) u (DenotesType.type_variable h)) refl
-written_given table s q front t u (DenotesType.constructed {c = c} {ts = ts} h sense number parts) =
+written_given table s t u (DenotesType.constructed {c = c} {ts = ts} h sense number parts) =
     then_ok (type_in table s (RawType.named c ts)) _ u _
     (type_given table s (RawType.named c ts) u (DenotesType.constructed h sense number parts)) refl
 
-binder_given : (table : Table) (s : Scope) (q : Quantifier) (front : Bool) (o : Option RawType) (t : Ty)
+binder_given : (table : Table) (s : Scope) (o : Option RawType) (t : Ty)
     → DenotesWritten table s o t
-    → binder_in table s q front o ≡ Ok (Binder.of_term t)
-binder_given table s q front o t DenotesWritten.unwritten = refl
-binder_given table s q front o t (DenotesWritten.written {t = r} h) = written_given table s q front r t h
+    → binder_in table s o ≡ Ok (Binder.of_term t)
+binder_given table s o t DenotesWritten.unwritten = refl
+binder_given table s o t (DenotesWritten.written {t = r} h) = written_given table s r t h
 
-pub form_given : (table : Table) (s : Scope) (front : Bool) (f : RawForm) (g : Form) (after : Table)
-    → DenotesForm table s front f g after → form_in table s front f ≡ Ok (typed g after)
-form_given table s front f g after DenotesForm.truth = refl
-form_given table s front f g after DenotesForm.falsity = refl
-form_given table s front f g after (DenotesForm.atom {u = u} {p = p} {ts = ts} {us = us} h) =
+pub form_given : (table : Table) (s : Scope) (f : RawForm) (g : Form) (after : Table)
+    → DenotesForm table s f g after → form_in table s f ≡ Ok (typed g after)
+form_given table s f g after DenotesForm.truth = refl
+form_given table s f g after DenotesForm.falsity = refl
+form_given table s f g after (DenotesForm.atom {u = u} {p = p} {ts = ts} {us = us} h) =
     then_ok (expression_in table s Place.formula u) _ (typed (Expression.atom p ts us) after) _
     (expression_given table s Place.formula u (Expression.atom p ts us) after h) refl
-form_given table s front f g after
+form_given table s f g after
     (DenotesForm.equal {middle = middle} {left = left} {right = right} {t = t} {a = a} {b = b} h i) =
     then_ok (expression_in table s Place.term left) _ (typed (Expression.term t a) middle) _
     (expression_given table s Place.term left (Expression.term t a) middle h)
@@ -161,19 +161,18 @@ form_given table s front f g after
     (then_ok (expression_in middle s Place.term right) _ (typed (Expression.term t b) after) _
     (expression_given middle s Place.term right (Expression.term t b) after i)
     (then_ok (wanted t (Expression.term t b)) _ b _ (wanted_given t b) refl)))
-form_given table s front f g after (DenotesForm.negation {f = body} {g = tree} h) =
-    then_ok (form_in table s false body) _ (typed tree after) _ (form_given table s false body tree after h) refl
-form_given table s front f g after (DenotesForm.binary {middle = middle} {f = left} {g = right} {a = a} {b = b} h i) =
-    then_ok (form_in table s false left) _ (typed a middle) _ (form_given table s false left a middle h)
-    (then_ok (form_in middle s false right) _ (typed b after) _ (form_given middle s false right b after i) refl)
-form_given table s front f g after (DenotesForm.quantified {q = q} {v = v} {t = t} {f = body} {g = tree} h i) =
-    then_ok (binder_in table s q front v.type) _ (Binder.of_term t) _ (binder_given table s q front v.type t h)
-    (then_ok (form_in table (record { name = v.name; binder = Binder.of_term t } ∷ s) (front && is_universal q) body) _
+form_given table s f g after (DenotesForm.negation {f = body} {g = tree} h) =
+    then_ok (form_in table s body) _ (typed tree after) _ (form_given table s body tree after h) refl
+form_given table s f g after (DenotesForm.binary {middle = middle} {f = left} {g = right} {a = a} {b = b} h i) =
+    then_ok (form_in table s left) _ (typed a middle) _ (form_given table s left a middle h)
+    (then_ok (form_in middle s right) _ (typed b after) _ (form_given middle s right b after i) refl)
+form_given table s f g after (DenotesForm.quantified {q = q} {v = v} {t = t} {f = body} {g = tree} h i) =
+    then_ok (binder_in table s v.type) _ (Binder.of_term t) _ (binder_given table s v.type t h)
+    (then_ok (form_in table (record { name = v.name; binder = Binder.of_term t } ∷ s) body) _
     (typed tree after) _
     (form_given table (record { name = v.name; binder = Binder.of_term t } ∷ s)
-    (front && is_universal q) body tree after i) refl)
-form_given table s front f g after (DenotesForm.for_all_types {v = v} {f = body} {g = tree} h i) =
-    then_ok (binder_in table s Quantifier.universal true v.type) _ Binder.of_type _
-    (ap (λ o. binder_in table s Quantifier.universal true o) h)
-    (then_ok (form_in table (record { name = v.name; binder = Binder.of_type } ∷ s) true body) _ (typed tree after) _
-    (form_given table (record { name = v.name; binder = Binder.of_type } ∷ s) true body tree after i) refl)
+    body tree after i) refl)
+form_given table s f g after (DenotesForm.quantified_types {v = v} {f = body} {g = tree} h i) =
+    then_ok (binder_in table s v.type) _ Binder.of_type _ (ap (λ o. binder_in table s o) h)
+    (then_ok (form_in table (record { name = v.name; binder = Binder.of_type } ∷ s) body) _ (typed tree after) _
+    (form_given table (record { name = v.name; binder = Binder.of_type } ∷ s) body tree after i) refl)

@@ -11,7 +11,7 @@ use Rattle.tff_typing.specs.Scope.{Scope, Variable, Bound, look_up}
 use Rattle.tff_typing.specs.Table.{Table, Numbered, Place, arity, declared, used, used_as, undeclared, with_entry, most_symbols}
 use Rattle.tff_typing.specs.Fault.{found_type, Fault, ◌>>=◌}
 use Rattle.tff_typing.specs.Places.{if_type, type_variable, if_constructor, constructor_at, type_in, types_in, Use, if_symbol, new_symbol, used_or_new, declared_or_used, symbol_for, Expression, applied, if_term, term_variable, wanted, as_formula, first, rest}
-use Rattle.tff_typing.specs.Typing.{Typed, gives, expression_in, terms_in, left_side, equality_in, type_quantifier, of_written, binder_in, bind, is_universal, form_in}
+use Rattle.tff_typing.specs.Typing.{Typed, gives, expression_in, terms_in, left_side, equality_in, of_written, binder_in, bind, form_in}
 use Rattle.tff_typing.specs.Rules.{DenotesType, DenoteTypes, IsNoConstructor, DenotesSymbol, DenotesExpression, DenoteTerms, DenotesWritten, DenotesForm}
 use Rattle.tff_typing.proofs.Outcomes.{both_ok, ok_same, no_ok, test_held}
 use Rattle.zm_logic.proofs.TypeInstances.{how_many_instance}
@@ -203,119 +203,111 @@ mutual
       (wanted_holds w a.0.tree b.0 b.1) x)
       (terms_hold a.0.table s zero ws us c.0 (omega arith) c.1))
 
--- what a quantifier binds: a variable of a type, or a type variable of a quantifier over types at the front
-data Binds (table : Table) (s : Scope) (o : Option RawType) : Quantifier → Bool → Binder → Type 0 where
-  a_term : {q : Quantifier} {front : Bool} {t : Ty} → DenotesWritten table s o t
-      → Binds table s o q front (Binder.of_term t)
-  a_type : o ≡ Some RawType.kind → Binds table s o Quantifier.universal true Binder.of_type
+-- what a quantifier binds: a variable of a type, or a type variable
+data Binds (table : Table) (s : Scope) (o : Option RawType) : Binder → Type 0 where
+  a_term : {t : Ty} → DenotesWritten table s o t → Binds table s o (Binder.of_term t)
+  a_type : o ≡ Some RawType.kind → Binds table s o Binder.of_type
 
 module _ (table : Table) (s : Scope) where
-  quantifier_binds : (q : Quantifier) (front : Bool) (b : Binder) → type_quantifier q front ≡ Ok b
-      → Binds table s (Some RawType.kind) q front b
-  quantifier_binds Quantifier.universal true b h =
-      subst (λ (y : Binder). Binds table s (Some RawType.kind) Quantifier.universal true y) (ok_same Binder.of_type b h)
-      (Binds.a_type refl)
-  quantifier_binds Quantifier.universal false b h = absurd (no_ok _ b h)
-  quantifier_binds Quantifier.existential front b h = absurd (no_ok _ b h)
-
-  type_binds : (q : Quantifier) (front : Bool) (t : RawType) (b : Binder)
+  type_binds : (t : RawType) (b : Binder)
       → (type_in table s t >>= λ u. Ok (Binder.of_term u)) ≡ Ok b
-      → Binds table s (Some t) q front b
-  type_binds q front t b h =
+      → Binds table s (Some t) b
+  type_binds t b h =
       let a = both_ok (type_in table s t) _ b h in
-      subst (λ (y : Binder). Binds table s (Some t) q front y) (ok_same (Binder.of_term a.0) b a.2)
+      subst (λ (y : Binder). Binds table s (Some t) y) (ok_same (Binder.of_term a.0) b a.2)
       (Binds.a_term (DenotesWritten.written (type_holds table s t a.0 a.1)))
 
-  written_binds : (q : Quantifier) (front : Bool) (t : RawType) (b : Binder) → of_written table s q front t ≡ Ok b
-      → Binds table s (Some t) q front b
-  written_binds q front RawType.kind b h = quantifier_binds q front b h
-  written_binds q front RawType.individual b h =
-      subst (λ (y : Binder). Binds table s (Some RawType.individual) q front y)
+  written_binds : (t : RawType) (b : Binder) → of_written table s t ≡ Ok b
+      → Binds table s (Some t) b
+  written_binds RawType.kind b h =
+      subst (λ (y : Binder). Binds table s (Some RawType.kind) y) (ok_same Binder.of_type b h) (Binds.a_type refl)
+  written_binds RawType.individual b h =
+      subst (λ (y : Binder). Binds table s (Some RawType.individual) y)
       (ok_same (Binder.of_term individual) b h)
       (Binds.a_term (DenotesWritten.written DenotesType.of_individuals))
-  written_binds q front RawType.truth b h = absurd (no_ok _ b h)
-  written_binds q front (RawType.variable x) b h = type_binds q front (RawType.variable x) b h
-  written_binds q front (RawType.named c ts) b h = type_binds q front (RawType.named c ts) b h
+  written_binds RawType.truth b h = absurd (no_ok _ b h)
+  written_binds (RawType.variable x) b h = type_binds (RawType.variable x) b h
+  written_binds (RawType.named c ts) b h = type_binds (RawType.named c ts) b h
 
-  binder_binds : (q : Quantifier) (front : Bool) (o : Option RawType) (b : Binder) → binder_in table s q front o ≡ Ok b
-      → Binds table s o q front b
-  binder_binds q front None b h =
-      subst (λ (y : Binder). Binds table s None q front y) (ok_same (Binder.of_term individual) b h)
+  binder_binds : (o : Option RawType) (b : Binder) → binder_in table s o ≡ Ok b
+      → Binds table s o b
+  binder_binds None b h =
+      subst (λ (y : Binder). Binds table s None y) (ok_same (Binder.of_term individual) b h)
       (Binds.a_term DenotesWritten.unwritten)
-  binder_binds q front (Some t) b h = written_binds q front t b h
+  binder_binds (Some t) b h = written_binds t b h
 
-  bound_form_holds : (q : Quantifier) (front : Bool) (v : RawVariable) (f : RawForm) (b : Binder) (g : Form)
-      (after : Table) → Binds table s v.type q front b
-      → DenotesForm table (record { name = v.name; binder = b } ∷ s) (front && is_universal q) f g after
-      → DenotesForm table s front (RawForm.quantified q v f) (bind q b (length s) g) after
-  bound_form_holds q front v f b g after (Binds.a_term h) body = DenotesForm.quantified h body
-  bound_form_holds q front v f b g after (Binds.a_type h) body = DenotesForm.for_all_types h body
+  bound_form_holds : (q : Quantifier) (v : RawVariable) (f : RawForm) (b : Binder) (g : Form)
+      (after : Table) → Binds table s v.type b
+      → DenotesForm table (record { name = v.name; binder = b } ∷ s) f g after
+      → DenotesForm table s (RawForm.quantified q v f) (bind q b (length s) g) after
+  bound_form_holds q v f b g after (Binds.a_term h) body = DenotesForm.quantified h body
+  bound_form_holds q v f b g after (Binds.a_type h) body = DenotesForm.quantified_types h body
 
-abbrev HasForm : Table → Scope → Bool → RawForm → Typed Form → Type 0
-HasForm table s front f e = DenotesForm table s front f e.tree e.table
+abbrev HasForm : Table → Scope → RawForm → Typed Form → Type 0
+HasForm table s f e = DenotesForm table s f e.tree e.table
 
 -- a derivation of the tree that is given
-given_form : (table : Table) (s : Scope) (front : Bool) (f : RawForm) (g : Form) (after : Table) (e : Typed Form)
-    → gives after g ≡ Ok e → DenotesForm table s front f g after → HasForm table s front f e
-given_form table s front f g after e h d =
-    subst (λ (z : Typed Form). HasForm table s front f z) (ok_same (typed g after) e h) d
+given_form : (table : Table) (s : Scope) (f : RawForm) (g : Form) (after : Table) (e : Typed Form)
+    → gives after g ≡ Ok e → DenotesForm table s f g after → HasForm table s f e
+given_form table s f g after e h d =
+    subst (λ (z : Typed Form). HasForm table s f z) (ok_same (typed g after) e h) d
 
 -- a formula's place takes an atom
-as_formula_holds : (table after : Table) (s : Scope) (front : Bool) (u : RawTerm) (x : Expression) (g : Form)
+as_formula_holds : (table after : Table) (s : Scope) (u : RawTerm) (x : Expression) (g : Form)
     → as_formula x ≡ Ok g → DenotesExpression table s Place.formula u x after
-    → DenotesForm table s front (RawForm.plain u) g after
-as_formula_holds table after s front u (Expression.term t a) g h d = absurd (no_ok _ g h)
-as_formula_holds table after s front u (Expression.atom p ts us) g h d =
-    subst (λ (y : Form). DenotesForm table s front (RawForm.plain u) y after) (ok_same (Form.atom p ts us) g h)
+    → DenotesForm table s (RawForm.plain u) g after
+as_formula_holds table after s u (Expression.term t a) g h d = absurd (no_ok _ g h)
+as_formula_holds table after s u (Expression.atom p ts us) g h d =
+    subst (λ (y : Form). DenotesForm table s (RawForm.plain u) y after) (ok_same (Form.atom p ts us) g h)
     (DenotesForm.atom d)
 
-sides_hold : (table : Table) (s : Scope) (front : Bool) (left right : RawTerm) (x y : Typed Expression) (t : Ty)
+sides_hold : (table : Table) (s : Scope) (left right : RawTerm) (x y : Typed Expression) (t : Ty)
     (a b : Term)
     → DenotesExpression table s Place.term left x.tree x.table → wanted t x.tree ≡ Ok a
     → DenotesExpression x.table s Place.term right y.tree y.table → wanted t y.tree ≡ Ok b
-    → DenotesForm table s front (RawForm.equal left right) (Form.equal t a b) y.table
-sides_hold table s front left right x y t a b i wx j wy =
+    → DenotesForm table s (RawForm.equal left right) (Form.equal t a b) y.table
+sides_hold table s left right x y t a b i wx j wy =
     DenotesForm.equal
     (subst (λ (z : Expression). DenotesExpression table s Place.term left z x.table) (wanted_holds t x.tree a wx) i)
     (subst (λ (z : Expression). DenotesExpression x.table s Place.term right z y.table) (wanted_holds t y.tree b wy) j)
 
-equality_holds : (table : Table) (s : Scope) (front : Bool) (left right : RawTerm) (e : Typed Form)
-    → equality_in table s left right ≡ Ok e → HasForm table s front (RawForm.equal left right) e
-equality_holds table s front left right e h =
+equality_holds : (table : Table) (s : Scope) (left right : RawTerm) (e : Typed Form)
+    → equality_in table s left right ≡ Ok e → HasForm table s (RawForm.equal left right) e
+equality_holds table s left right e h =
     let x = both_ok (expression_in table s Place.term left) _ e h in
     let t = both_ok (left_side x.0.tree) _ e x.2 in
     let a = both_ok (wanted t.0 x.0.tree) _ e t.2 in
     let y = both_ok (expression_in x.0.table s Place.term right) _ e a.2 in
     let b = both_ok (wanted t.0 y.0.tree) _ e y.2 in
-    given_form table s front (RawForm.equal left right) (Form.equal t.0 a.0 b.0) y.0.table e b.2
-    (sides_hold table s front left right x.0 y.0 t.0 a.0 b.0 (expression_holds table s Place.term left x.0 x.1) a.1
+    given_form table s (RawForm.equal left right) (Form.equal t.0 a.0 b.0) y.0.table e b.2
+    (sides_hold table s left right x.0 y.0 t.0 a.0 b.0 (expression_holds table s Place.term left x.0 x.1) a.1
     (expression_holds x.0.table s Place.term right y.0 y.1) b.1)
 
-pub form_holds : (table : Table) (s : Scope) (front : Bool) (f : RawForm) (e : Typed Form)
-    → form_in table s front f ≡ Ok e → DenotesForm table s front f e.tree e.table
-form_holds table s front RawForm.truth e h =
-    given_form table s front RawForm.truth Form.truth table e h DenotesForm.truth
-form_holds table s front RawForm.falsity e h =
-    given_form table s front RawForm.falsity Form.falsity table e h DenotesForm.falsity
-form_holds table s front (RawForm.plain u) e h =
+pub form_holds : (table : Table) (s : Scope) (f : RawForm) (e : Typed Form)
+    → form_in table s f ≡ Ok e → DenotesForm table s f e.tree e.table
+form_holds table s RawForm.truth e h =
+    given_form table s RawForm.truth Form.truth table e h DenotesForm.truth
+form_holds table s RawForm.falsity e h =
+    given_form table s RawForm.falsity Form.falsity table e h DenotesForm.falsity
+form_holds table s (RawForm.plain u) e h =
     let a = both_ok (expression_in table s Place.formula u) _ e h in
     let b = both_ok (as_formula a.0.tree) _ e a.2 in
-    given_form table s front (RawForm.plain u) b.0 a.0.table e b.2
-    (as_formula_holds table a.0.table s front u a.0.tree b.0 b.1 (expression_holds table s Place.formula u a.0 a.1))
-form_holds table s front (RawForm.equal left right) e h = equality_holds table s front left right e h
-form_holds table s front (RawForm.negation f) e h =
-    let a = both_ok (form_in table s false f) _ e h in
-    given_form table s front (RawForm.negation f) (Form.negation a.0.tree) a.0.table e a.2
-    (DenotesForm.negation (form_holds table s false f a.0 a.1))
-form_holds table s front (RawForm.binary c f g) e h =
-    let a = both_ok (form_in table s false f) _ e h in
-    let b = both_ok (form_in a.0.table s false g) _ e a.2 in
-    given_form table s front (RawForm.binary c f g) (Form.binary (connective_of c) a.0.tree b.0.tree) b.0.table e b.2
-    (DenotesForm.binary (form_holds table s false f a.0 a.1) (form_holds a.0.table s false g b.0 b.1))
-form_holds table s front (RawForm.quantified q v f) e h =
-    let a = both_ok (binder_in table s q front v.type) _ e h in
+    given_form table s (RawForm.plain u) b.0 a.0.table e b.2
+    (as_formula_holds table a.0.table s u a.0.tree b.0 b.1 (expression_holds table s Place.formula u a.0 a.1))
+form_holds table s (RawForm.equal left right) e h = equality_holds table s left right e h
+form_holds table s (RawForm.negation f) e h =
+    let a = both_ok (form_in table s f) _ e h in
+    given_form table s (RawForm.negation f) (Form.negation a.0.tree) a.0.table e a.2
+    (DenotesForm.negation (form_holds table s f a.0 a.1))
+form_holds table s (RawForm.binary c f g) e h =
+    let a = both_ok (form_in table s f) _ e h in
+    let b = both_ok (form_in a.0.table s g) _ e a.2 in
+    given_form table s (RawForm.binary c f g) (Form.binary (connective_of c) a.0.tree b.0.tree) b.0.table e b.2
+    (DenotesForm.binary (form_holds table s f a.0 a.1) (form_holds a.0.table s g b.0 b.1))
+form_holds table s (RawForm.quantified q v f) e h =
+    let a = both_ok (binder_in table s v.type) _ e h in
     let w : Variable = record { name = v.name; binder = a.0 } in
-    let b = both_ok (form_in table (w ∷ s) (front && is_universal q) f) _ e a.2 in
-    given_form table s front (RawForm.quantified q v f) (bind q a.0 (length s) b.0.tree) b.0.table e b.2
-    (bound_form_holds table s q front v f a.0 b.0.tree b.0.table (binder_binds table s q front v.type a.0 a.1)
-    (form_holds table (w ∷ s) (front && is_universal q) f b.0 b.1))
+    let b = both_ok (form_in table (w ∷ s) f) _ e a.2 in
+    given_form table s (RawForm.quantified q v f) (bind q a.0 (length s) b.0.tree) b.0.table e b.2
+    (bound_form_holds table s q v f a.0 b.0.tree b.0.table (binder_binds table s v.type a.0 a.1)
+    (form_holds table (w ∷ s) f b.0 b.1))

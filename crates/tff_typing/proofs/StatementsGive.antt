@@ -92,22 +92,22 @@ typed g table = record { tree = g; table = table }
 
 premise_given : (state : State) (x : Name) (o : Option Role) (r : Role) (f : RawForm) (g : Form) (after : Table)
     → o ≡ Some r
-    → form_in state.table [] true f ≡ Ok (typed g after)
+    → form_in state.table [] f ≡ Ok (typed g after)
     → formula_of state x o f ≡ Ok
     (record state { table = after; premises = state.premises ++ record { name = x; role = r; form = g } ∷ [] })
-premise_given state x o r f g after e h = rw e (then_ok (form_in state.table [] true f) _ (typed g after) _ h refl)
+premise_given state x o r f g after e h = rw e (then_ok (form_in state.table [] f) _ (typed g after) _ h refl)
 
 conjecture_given : (state : State) (x : Name) (o : Option Role) (f : RawForm) (g : Form) (after : Table) → o ≡ None
     → state.conjecture ≡ None
-    → form_in state.table [] true f ≡ Ok (typed g after)
+    → form_in state.table [] f ≡ Ok (typed g after)
     → formula_of state x o f ≡ Ok (record state { table = after; conjecture = Some g })
 conjecture_given state x o f g after e none h = rw e (go state.conjecture none)
   where
     go : (c : Option Form) → c ≡ None
         → if_first c
-        (form_in state.table [] true f >>= λ g. Ok (record state { table = g.table; conjecture = Some g.tree }))
+        (form_in state.table [] f >>= λ g. Ok (record state { table = g.table; conjecture = Some g.tree }))
         ≡ Ok (record state { table = after; conjecture = Some g })
-    go c i = rw i (then_ok (form_in state.table [] true f) _ (typed g after) _ h refl)
+    go c i = rw i (then_ok (form_in state.table [] f) _ (typed g after) _ h refl)
 
 pub statement_given : (state : State) (x : RawStatement) (after : State) → MakesState state x after
     → statement_in state x ≡ Ok after
@@ -116,10 +116,10 @@ statement_given state x after (MakesState.declaration {subject = subject} {top =
     (declaration_given state.table subject top d new room declares) refl
 statement_given state x after
     (MakesState.premise {x = name} {role = role} {r = r} {f = f} {g = g} {after = table} e h) =
-    premise_given state name (premise_role role) r f g table e (form_given state.table [] true f g table h)
+    premise_given state name (premise_role role) r f g table e (form_given state.table [] f g table h)
 statement_given state x after
     (MakesState.conjecture {x = name} {role = role} {f = f} {g = g} {after = table} e none h) =
-    conjecture_given state name (premise_role role) f g table e none (form_given state.table [] true f g table h)
+    conjecture_given state name (premise_role role) f g table e none (form_given state.table [] f g table h)
 statement_given state x after MakesState.inclusion = refl
 
 next_given : (n : ℕ) (symbols : List Symbol) (r : Outcome State) (middle after : State)

@@ -162,23 +162,23 @@ module _ (state : State) where
 
   conjecture_holds : (x : Name) (role : RawRole) (f : RawForm) (next : State) → premise_role role ≡ None
       → (o : Option Form) → state.conjecture ≡ o
-      → if_first o (form_in state.table [] true f >>= λ g. Ok (with_conjecture state g)) ≡ Ok next
+      → if_first o (form_in state.table [] f >>= λ g. Ok (with_conjecture state g)) ≡ Ok next
       → MakesState state (RawStatement.formula x role f) next
   conjecture_holds x role f next e (Some c) i h = absurd (no_ok _ next h)
   conjecture_holds x role f next e None i h =
-      let a = both_ok (form_in state.table [] true f) _ next h in
+      let a = both_ok (form_in state.table [] f) _ next h in
       subst (λ (y : State). MakesState state (RawStatement.formula x role f) y)
       (ok_same (with_conjecture state a.0) next a.2)
-      (MakesState.conjecture e i (form_holds state.table [] true f a.0 a.1))
+      (MakesState.conjecture e i (form_holds state.table [] f a.0 a.1))
 
   formula_holds : (x : Name) (role : RawRole) (f : RawForm) (next : State) → (o : Option Role) → premise_role role ≡ o
       → formula_of state x o f ≡ Ok next
       → MakesState state (RawStatement.formula x role f) next
   formula_holds x role f next (Some r) e h =
-      let a = both_ok (form_in state.table [] true f) _ next h in
+      let a = both_ok (form_in state.table [] f) _ next h in
       subst (λ (y : State). MakesState state (RawStatement.formula x role f) y)
       (ok_same (with_premise state x r a.0) next a.2)
-      (MakesState.premise e (form_holds state.table [] true f a.0 a.1))
+      (MakesState.premise e (form_holds state.table [] f a.0 a.1))
   formula_holds x role f next None e h = conjecture_holds x role f next e state.conjecture refl h
 
   pub statement_holds : (s : RawStatement) (next : State) → statement_in state s ≡ Ok next → MakesState state s next

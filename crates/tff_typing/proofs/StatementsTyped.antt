@@ -219,9 +219,9 @@ with_table state table = record { table = table; premises = state.premises; conj
 formula_is : (state : State) (x : Name) (role : Option Role) (f : RawForm) (next : State) → IsState state
     → formula_of state x role f ≡ Ok next → IsState next
 formula_is state x (Some role) f next ok h =
-    let a = both_ok (form_in state.table [] true f) _ next h in
+    let a = both_ok (form_in state.table [] f) _ next h in
     let g = a.0 in
-    let i = form_sound state.table [] true f g ok.table tt a.1 in
+    let i = form_sound state.table [] f g ok.table tt a.1 in
     let made : Premise = record { name = x; role = role; form = g.tree } in
     let P : Premise → Type 0 = λ p. IsFormIn (symbols_of g.table) [] p.form in
     subst (λ (y : State). IsState y) (ok_same (with_premise state x role g) next a.2)
@@ -238,13 +238,13 @@ formula_is state x None f next ok h = go state.conjecture h
     some_form : (f g : Form) → Some f ≡ Some g → f ≡ g
     some_form f g h = cc
 
-    go : (o : Option Form) → if_first o (form_in state.table [] true f >>= λ g. Ok (with_conjecture state g)) ≡ Ok next
+    go : (o : Option Form) → if_first o (form_in state.table [] f >>= λ g. Ok (with_conjecture state g)) ≡ Ok next
         → IsState next
     go (Some c) h = absurd (no_ok _ next h)
     go None h =
-        let a = both_ok (form_in state.table [] true f) _ next h in
+        let a = both_ok (form_in state.table [] f) _ next h in
         let g = a.0 in
-        let i = form_sound state.table [] true f g ok.table tt a.1 in
+        let i = form_sound state.table [] f g ok.table tt a.1 in
         subst (λ (y : State). IsState y) (ok_same (with_conjecture state g) next a.2)
         (record {
           table = i.grown.good;

@@ -43,11 +43,11 @@ shown_free (Ok g) h = rw (indexed_form_free 0 g.tree (h g refl)) refl
 shown_free (Err e) h = refl
 
 module _ (state : State) (ok : IsState state) where
-  form_same : (f : RawForm) → form_at state.table [] true f ≡ form_in state.table [] true f
+  form_same : (f : RawForm) → form_at state.table [] f ≡ form_in state.table [] f
   form_same f =
-      form_shown state.table [] true f
-      ∙ shown_free (form_in state.table [] true f)
-      (λ g h. no_parameter (symbols_of g.table) g.tree (form_sound state.table [] true f g ok.table tt h).form)
+      form_shown state.table [] f
+      ∙ shown_free (form_in state.table [] f)
+      (λ g h. no_parameter (symbols_of g.table) g.tree (form_sound state.table [] f g ok.table tt h).form)
 
   statement_same : (x : RawStatement) → statement_at state x ≡ statement_in state x
   statement_same (RawStatement.formula x role f) = go (premise_role role)

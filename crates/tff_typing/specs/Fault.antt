@@ -31,7 +31,6 @@ pub data Fault : Type 0 where
   arity : Fault
   not_a_type : Fault
   not_a_term : Fault
-  type_quantifier : Fault
   mismatch : (wanted got : Found) → Fault
 
 -- a tree, or the first fault

@@ -9,7 +9,7 @@ use Rattle.tff_typing.specs.Scope.{Scope, Bound, look_up}
 use Rattle.tff_typing.specs.Table.{Table, Numbered, Place, formula, term, arity, declared, used, undeclared, with_entry, most_symbols}
 use Rattle.tff_typing.specs.Fault.{Fault, Outcome, ◌>>=◌}
 use Rattle.tff_typing.specs.Places.{type_in, types_in, Expression, wanted, as_formula, first}
-use Rattle.tff_typing.specs.Typing.{Typed, gives, unchanged, left_side, binder_in, is_universal}
+use Rattle.tff_typing.specs.Typing.{Typed, gives, unchanged, left_side, binder_in}
 use Rattle.tff_typing.specs.Statements.{indexed, all_indexed, is_kind, function_of, State, if_first, declare}
 
 -- the term and the formula with an index for each variable in scope, under k binders
@@ -32,7 +32,7 @@ indexed_form k (Form.equal t a b) = Form.equal (indexed k t) (indexed_term k a) 
 indexed_form k (Form.negation f) = Form.negation (indexed_form k f)
 indexed_form k (Form.binary c f g) = Form.binary c (indexed_form k f) (indexed_form k g)
 indexed_form k (Form.quantified q t f) = Form.quantified q (indexed k t) (indexed_form (suc k) f)
-indexed_form k (Form.for_all_types f) = Form.for_all_types (indexed_form (suc k) f)
+indexed_form k (Form.quantified_types q f) = Form.quantified_types q (indexed_form (suc k) f)
 
 -- the expression with an index for each variable; its type keeps the parameters
 abbrev pub indexed_expression : ℕ → Expression → Expression
@@ -187,26 +187,26 @@ indexed_binder k Binder.of_type = Binder.of_type
 indexed_binder k (Binder.of_term t) = Binder.of_term (indexed k t)
 
 abbrev pub bind_at : Quantifier → Binder → Form → Form
-bind_at q Binder.of_type f = Form.for_all_types f
+bind_at q Binder.of_type f = Form.quantified_types (quantifier_of q) f
 bind_at q (Binder.of_term t) f = Form.quantified (quantifier_of q) t f
 
 abbrev pub plain_at : Table → Scope → RawTerm → Outcome (Typed Form)
 plain_at table s u = expression_at table s formula u >>= λ x. unchanged x.table (as_formula x.tree)
 
-abbrev pub form_at : Table → Scope → Bool → RawForm → Outcome (Typed Form)
-form_at table s front RawForm.truth = gives table Form.truth
-form_at table s front RawForm.falsity = gives table Form.falsity
-form_at table s front (RawForm.plain u) = plain_at table s u
-form_at table s front (RawForm.equal a b) = equality_at table s a b
-form_at table s front (RawForm.negation f) =
-    form_at table s false f >>= λ g. gives g.table (Form.negation g.tree)
-form_at table s front (RawForm.binary c f g) =
-    form_at table s false f >>= λ a.
-    form_at a.table s false g >>= λ b.
+abbrev pub form_at : Table → Scope → RawForm → Outcome (Typed Form)
+form_at table s RawForm.truth = gives table Form.truth
+form_at table s RawForm.falsity = gives table Form.falsity
+form_at table s (RawForm.plain u) = plain_at table s u
+form_at table s (RawForm.equal a b) = equality_at table s a b
+form_at table s (RawForm.negation f) =
+    form_at table s f >>= λ g. gives g.table (Form.negation g.tree)
+form_at table s (RawForm.binary c f g) =
+    form_at table s f >>= λ a.
+    form_at a.table s g >>= λ b.
     gives b.table (Form.binary (connective_of c) a.tree b.tree)
-form_at table s front (RawForm.quantified q v f) =
-    binder_in table s q front v.type >>= λ b.
-    form_at table (record { name = v.name; binder = b } ∷ s) (front && is_universal q) f >>= λ g.
+form_at table s (RawForm.quantified q v f) =
+    binder_in table s v.type >>= λ b.
+    form_at table (record { name = v.name; binder = b } ∷ s) f >>= λ g.
     gives g.table (bind_at q (indexed_binder (length s) b) g.tree)
 
 -- one argument of a declaration: its type, or none where it is `$tType`
@@ -227,14 +227,14 @@ function_at table x s ts t = type_in table s t >>= λ r. Ok (function_of x s ts 
 -- a statement
 abbrev pub formula_at : State → Name → Option Role → RawForm → Outcome State
 formula_at state x (Some role) f =
-    form_at state.table [] true f >>= λ g.
+    form_at state.table [] f >>= λ g.
     Ok (record state {
       table = g.table;
       premises = state.premises ++ record { name = x; role = role; form = g.tree } ∷ [];
     })
 formula_at state x None f =
     if_first state.conjecture
-    (form_at state.table [] true f >>= λ g. Ok (record state { table = g.table; conjecture = Some g.tree }))
+    (form_at state.table [] f >>= λ g. Ok (record state { table = g.table; conjecture = Some g.tree }))
 
 abbrev pub statement_at : State → RawStatement → Outcome State
 statement_at state (RawStatement.formula x role f) = formula_at state x (premise_role role) f

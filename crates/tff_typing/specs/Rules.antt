@@ -1,7 +1,7 @@
 -- The rules of typing: what a written type, term, formula or statement stands for, under the symbols so far and the
 -- variables in scope, and which symbols there are behind it. Each rule has one constructor for each way to be right; of
 -- what is wrong with a text that no rule fits, `Typing` and `Statements` tell the first fault.
-use Rattle.std.specs.Prelude.{ℕ, suc, ◌≡◌, ◌<◌, Bool, true, false, ◌&&◌, Option, Some, None, List, [], ◌∷◌, ◌++◌, length}
+use Rattle.std.specs.Prelude.{ℕ, suc, ◌≡◌, ◌<◌, Bool, true, false, Option, Some, None, List, [], ◌∷◌, ◌++◌, length}
 use Rattle.zm_logic.specs.Tree.{Ty, Tys, Term, Terms, Form, Symbol, Sense, Binder, Role, Problem}
 use Rattle.zm_logic.specs.Typing.{individual, argument_types}
 use Rattle.zm_logic.specs.Opening.{close}
@@ -11,7 +11,6 @@ use Rattle.tff_typing.specs.Written.{as_types, number_of_types, number_of_terms,
 use Rattle.tff_typing.specs.Scope.{Scope, look_up}
 use Rattle.tff_typing.specs.Table.{Table, Numbered, Place, formula, term, arity, declared, used, known, undeclared, with_entry, most_symbols}
 use Rattle.tff_typing.specs.Places.{Expression, applied, first, rest}
-use Rattle.tff_typing.specs.Typing.{is_universal}
 use Rattle.tff_typing.specs.Statements.{function_of, predicate_of, State, start, problem_of}
 
 -- A type in a place that is no result: $i, a type variable in scope, or a declared constructor at as many types as it
@@ -76,33 +75,33 @@ pub data DenotesWritten (table : Table) (s : Scope) : Option RawType → Ty → 
   written : {t : RawType} {u : Ty} → DenotesType table s t u → DenotesWritten table s (Some t) u
 
 -- A formula. The variable that a quantifier binds has the number of the binders round it, and the tree closes on that
--- number. Type variables are bound by `!` alone, with nothing but `!` round them: `front` says that this is so.
-pub data DenotesForm : Table → Scope → (front : Bool) → RawForm → Form → Table → Type 0 where
-  truth : {table : Table} {s : Scope} {front : Bool} → DenotesForm table s front RawForm.truth Form.truth table
-  falsity : {table : Table} {s : Scope} {front : Bool} → DenotesForm table s front RawForm.falsity Form.falsity table
-  atom : {table after : Table} {s : Scope} {front : Bool} {u : RawTerm} {p : ℕ} {ts : Tys} {us : Terms}
+-- number. A quantifier binds a variable for terms of a type, or one for types, wherever it stands.
+pub data DenotesForm : Table → Scope → RawForm → Form → Table → Type 0 where
+  truth : {table : Table} {s : Scope} → DenotesForm table s RawForm.truth Form.truth table
+  falsity : {table : Table} {s : Scope} → DenotesForm table s RawForm.falsity Form.falsity table
+  atom : {table after : Table} {s : Scope} {u : RawTerm} {p : ℕ} {ts : Tys} {us : Terms}
       → DenotesExpression table s formula u (Expression.atom p ts us) after
-      → DenotesForm table s front (RawForm.plain u) (Form.atom p ts us) after
-  equal : {table middle after : Table} {s : Scope} {front : Bool} {left right : RawTerm} {t : Ty} {a b : Term}
+      → DenotesForm table s (RawForm.plain u) (Form.atom p ts us) after
+  equal : {table middle after : Table} {s : Scope} {left right : RawTerm} {t : Ty} {a b : Term}
       → DenotesExpression table s term left (Expression.term t a) middle
       → DenotesExpression middle s term right (Expression.term t b) after
-      → DenotesForm table s front (RawForm.equal left right) (Form.equal t a b) after
-  negation : {table after : Table} {s : Scope} {front : Bool} {f : RawForm} {g : Form}
-      → DenotesForm table s false f g after → DenotesForm table s front (RawForm.negation f) (Form.negation g) after
-  binary : {table middle after : Table} {s : Scope} {front : Bool} {c : Connective} {f g : RawForm} {a b : Form}
-      → DenotesForm table s false f a middle → DenotesForm middle s false g b after
-      → DenotesForm table s front (RawForm.binary c f g) (Form.binary (connective_of c) a b) after
-  quantified : {table after : Table} {s : Scope} {front : Bool} {q : Quantifier} {v : RawVariable}
+      → DenotesForm table s (RawForm.equal left right) (Form.equal t a b) after
+  negation : {table after : Table} {s : Scope} {f : RawForm} {g : Form}
+      → DenotesForm table s f g after → DenotesForm table s (RawForm.negation f) (Form.negation g) after
+  binary : {table middle after : Table} {s : Scope} {c : Connective} {f g : RawForm} {a b : Form}
+      → DenotesForm table s f a middle → DenotesForm middle s g b after
+      → DenotesForm table s (RawForm.binary c f g) (Form.binary (connective_of c) a b) after
+  quantified : {table after : Table} {s : Scope} {q : Quantifier} {v : RawVariable}
       {t : Ty} {f : RawForm} {g : Form}
       → DenotesWritten table s v.type t
-      → DenotesForm table (record { name = v.name; binder = Binder.of_term t } ∷ s) (front && is_universal q) f g after
-      → DenotesForm table s front (RawForm.quantified q v f)
+      → DenotesForm table (record { name = v.name; binder = Binder.of_term t } ∷ s) f g after
+      → DenotesForm table s (RawForm.quantified q v f)
       (Form.quantified (quantifier_of q) t (close g (length s))) after
-  for_all_types : {table after : Table} {s : Scope} {v : RawVariable} {f : RawForm} {g : Form}
+  quantified_types : {table after : Table} {s : Scope} {q : Quantifier} {v : RawVariable} {f : RawForm} {g : Form}
       → v.type ≡ Some RawType.kind
-      → DenotesForm table (record { name = v.name; binder = Binder.of_type } ∷ s) true f g after
-      → DenotesForm table s true (RawForm.quantified Quantifier.universal v f)
-      (Form.for_all_types (close g (length s))) after
+      → DenotesForm table (record { name = v.name; binder = Binder.of_type } ∷ s) f g after
+      → DenotesForm table s (RawForm.quantified q v f)
+      (Form.quantified_types (quantifier_of q) (close g (length s))) after
 
 -- the type variables of a declaration, put before those in scope: each has the kind $tType
 pub data AreTypeVariables : Scope → List RawVariable → Scope → Type 0 where
@@ -137,11 +136,11 @@ pub data MakesState (state : State) : RawStatement → State → Type 0 where
       → known state.table subject ≡ None → length state.table < most_symbols → DeclaresSymbol state.table subject top d
       → MakesState state (RawStatement.typing x subject top) (record state { table = with_entry state.table true d })
   premise : {x : Name} {role : RawRole} {r : Role} {f : RawForm} {g : Form} {after : Table}
-      → premise_role role ≡ Some r → DenotesForm state.table [] true f g after
+      → premise_role role ≡ Some r → DenotesForm state.table [] f g after
       → MakesState state (RawStatement.formula x role f)
       (record state { table = after; premises = state.premises ++ record { name = x; role = r; form = g } ∷ [] })
   conjecture : {x : Name} {role : RawRole} {f : RawForm} {g : Form} {after : Table}
-      → premise_role role ≡ None → state.conjecture ≡ None → DenotesForm state.table [] true f g after
+      → premise_role role ≡ None → state.conjecture ≡ None → DenotesForm state.table [] f g after
       → MakesState state (RawStatement.formula x role f) (record state { table = after; conjecture = Some g })
   inclusion : {file : Name} {names : Option (List Name)} → MakesState state (RawStatement.inclusion file names) state
 

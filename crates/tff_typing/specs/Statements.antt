@@ -112,14 +112,14 @@ if_first (Some f) r = Err Fault.second_conjecture
 
 abbrev pub formula_of : State → Name → Option Role → RawForm → Outcome State
 formula_of state x (Some role) f =
-    form_in state.table [] true f >>= λ g.
+    form_in state.table [] f >>= λ g.
     Ok (record state {
       table = g.table;
       premises = state.premises ++ record { name = x; role = role; form = g.tree } ∷ [];
     })
 formula_of state x None f =
     if_first state.conjecture
-    (form_in state.table [] true f >>= λ g. Ok (record state { table = g.table; conjecture = Some g.tree }))
+    (form_in state.table [] f >>= λ g. Ok (record state { table = g.table; conjecture = Some g.tree }))
 
 -- what one more statement makes, or its first fault; an include makes nothing, since its statements stand in its place
 abbrev pub statement_in : State → RawStatement → Outcome State

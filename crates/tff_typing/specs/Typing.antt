@@ -61,47 +61,38 @@ equality_in table s left right =
     wanted t y.tree >>= λ b.
     gives y.table (Form.equal t a b)
 
--- what a quantifier binds; a type quantifier is one of the `!` quantifiers that begin the formula
-abbrev pub type_quantifier : Quantifier → Bool → Outcome Binder
-type_quantifier Quantifier.universal true = Ok Binder.of_type
-type_quantifier Quantifier.universal false = Err Fault.type_quantifier
-type_quantifier Quantifier.existential front = Err Fault.type_quantifier
-
-abbrev pub of_written : Table → Scope → Quantifier → Bool → RawType → Outcome Binder
-of_written table s q front RawType.kind = type_quantifier q front
-of_written table s q front RawType.individual = Ok (Binder.of_term individual)
-of_written table s q front RawType.truth = Err Fault.not_a_type
-of_written table s q front (RawType.variable x) = type_in table s (RawType.variable x) >>= λ t. Ok (Binder.of_term t)
-of_written table s q front (RawType.named c ts) = type_in table s (RawType.named c ts) >>= λ t. Ok (Binder.of_term t)
+-- what a quantifier binds: a variable of the kind $tType stands for types, and any other one for terms of its type
+abbrev pub of_written : Table → Scope → RawType → Outcome Binder
+of_written table s RawType.kind = Ok Binder.of_type
+of_written table s RawType.individual = Ok (Binder.of_term individual)
+of_written table s RawType.truth = Err Fault.not_a_type
+of_written table s (RawType.variable x) = type_in table s (RawType.variable x) >>= λ t. Ok (Binder.of_term t)
+of_written table s (RawType.named c ts) = type_in table s (RawType.named c ts) >>= λ t. Ok (Binder.of_term t)
 
 -- a variable without a type is an individual
-abbrev pub binder_in : Table → Scope → Quantifier → Bool → Option RawType → Outcome Binder
-binder_in table s q front None = Ok (Binder.of_term individual)
-binder_in table s q front (Some t) = of_written table s q front t
+abbrev pub binder_in : Table → Scope → Option RawType → Outcome Binder
+binder_in table s None = Ok (Binder.of_term individual)
+binder_in table s (Some t) = of_written table s t
 
 -- the formula that binds the parameter of the number
 abbrev pub bind : Quantifier → Binder → ℕ → Form → Form
-bind q Binder.of_type n f = Form.for_all_types (close f n)
+bind q Binder.of_type n f = Form.quantified_types (quantifier_of q) (close f n)
 bind q (Binder.of_term t) n f = Form.quantified (quantifier_of q) t (close f n)
 
-abbrev pub is_universal : Quantifier → Bool
-is_universal Quantifier.universal = true
-is_universal Quantifier.existential = false
-
--- a formula; `front` says that only `!` quantifiers stand over it
-abbrev pub form_in : Table → Scope → Bool → RawForm → Outcome (Typed Form)
-form_in table s front RawForm.truth = gives table Form.truth
-form_in table s front RawForm.falsity = gives table Form.falsity
-form_in table s front (RawForm.plain u) =
+-- a formula
+abbrev pub form_in : Table → Scope → RawForm → Outcome (Typed Form)
+form_in table s RawForm.truth = gives table Form.truth
+form_in table s RawForm.falsity = gives table Form.falsity
+form_in table s (RawForm.plain u) =
     expression_in table s formula u >>= λ x. unchanged x.table (as_formula x.tree)
-form_in table s front (RawForm.equal a b) = equality_in table s a b
-form_in table s front (RawForm.negation f) =
-    form_in table s false f >>= λ g. gives g.table (Form.negation g.tree)
-form_in table s front (RawForm.binary c f g) =
-    form_in table s false f >>= λ a.
-    form_in a.table s false g >>= λ b.
+form_in table s (RawForm.equal a b) = equality_in table s a b
+form_in table s (RawForm.negation f) =
+    form_in table s f >>= λ g. gives g.table (Form.negation g.tree)
+form_in table s (RawForm.binary c f g) =
+    form_in table s f >>= λ a.
+    form_in a.table s g >>= λ b.
     gives b.table (Form.binary (connective_of c) a.tree b.tree)
-form_in table s front (RawForm.quantified q v f) =
-    binder_in table s q front v.type >>= λ b.
-    form_in table (record { name = v.name; binder = b } ∷ s) (front && is_universal q) f >>= λ g.
+form_in table s (RawForm.quantified q v f) =
+    binder_in table s v.type >>= λ b.
+    form_in table (record { name = v.name; binder = b } ∷ s) f >>= λ g.
     gives g.table (bind q b (length s) g.tree)

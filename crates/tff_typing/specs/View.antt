@@ -59,7 +59,6 @@ fault_tree faults.Unbound = fault.Fault.unbound
 fault_tree faults.Arity = fault.Fault.arity
 fault_tree faults.NotAType = fault.Fault.not_a_type
 fault_tree faults.NotATerm = fault.Fault.not_a_term
-fault_tree faults.TypeQuantifier = fault.Fault.type_quantifier
 fault_tree (faults.Mismatch w g) = fault.Fault.mismatch (found_tree w) (found_tree g)
 
 -- what a symbol takes; without a declaration it is as many individuals as its key says

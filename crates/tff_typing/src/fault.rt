@@ -30,8 +30,6 @@ pub enum Fault {
     NotAType,
     /// What stands in a term's or a formula's place is a type.
     NotATerm,
-    /// A quantifier over types is existential, or isn't one of the universal quantifiers that begin the formula.
-    TypeQuantifier,
     /// Something else is wanted in the place than what was found.
     Mismatch { wanted: Found, got: Found },
 }

@@ -1,4 +1,4 @@
-ghost use Rattle.std.specs.Prelude.{◌≡◌, false, Ok, length, IfOk, OnOk};
+ghost use Rattle.std.specs.Prelude.{◌≡◌, Ok, length, IfOk, OnOk};
 ghost use Rattle.std.specs.Option.{option_map};
 ghost use Rattle.zm_logic.specs.Tree as tree;
 ghost use Rattle.zm_logic.specs.View.{term_tree, form_tree};
@@ -153,37 +153,18 @@ fn connected(
     })
 }
 
-// A quantifier over types is one of the universal quantifiers that begin the formula.
-fn type_quantifier(quantifier: Quantifier, front: bool) -> Result<Binder, Stop>
-    ensures { Gives binder_tree result (typing.type_quantifier (quantifier_tree quantifier) front) }
-{
-    match quantifier {
-        Quantifier::Universal => {
-            if front {
-                Ok(Binder::OfType)
-            } else {
-                Err(Stop::Refused(Fault::TypeQuantifier))
-            }
-        }
-        Quantifier::Existential => Err(Stop::Refused(Fault::TypeQuantifier)),
-    }
-}
-
 // What a quantifier binds with a written type.
 fn of_written<'a>(
     alloc: Global,
     symbols: &Symbols<'a>,
     scope: &[Variable],
-    quantifier: Quantifier,
-    front: bool,
     ty: &'a RawType,
 ) -> Result<Binder, Stop>
     ensures { Gives binder_tree result
-        (typing.of_written (table_tree symbols.now) (scope_tree scope.now) (quantifier_tree quantifier) front
-        (raw_type_tree ty.now)) }
+        (typing.of_written (table_tree symbols.now) (scope_tree scope.now) (raw_type_tree ty.now)) }
 {
     match ty {
-        RawType::Kind => type_quantifier(quantifier, front),
+        RawType::Kind => Ok(Binder::OfType),
         RawType::Individual => Ok(Binder::OfTerm(individual(alloc))),
         RawType::Truth => Err(Stop::Refused(Fault::NotAType)),
         RawType::Var(_) => Ok(Binder::OfTerm(type_in(alloc, symbols, scope, ty)?)),
@@ -196,17 +177,14 @@ fn binder_in<'a>(
     alloc: Global,
     symbols: &Symbols<'a>,
     scope: &[Variable],
-    quantifier: Quantifier,
-    front: bool,
     ty: &'a Option<RawType>,
 ) -> Result<Binder, Stop>
     ensures { Gives binder_tree result
-        (typing.binder_in (table_tree symbols.now) (scope_tree scope.now) (quantifier_tree quantifier) front
-        (option_map raw_type_tree ty.now)) }
+        (typing.binder_in (table_tree symbols.now) (scope_tree scope.now) (option_map raw_type_tree ty.now)) }
 {
     match ty {
         None => Ok(Binder::OfTerm(individual(alloc))),
-        Some(ty) => of_written(alloc, symbols, scope, quantifier, front, ty),
+        Some(ty) => of_written(alloc, symbols, scope, ty),
     }
 }
 
@@ -232,7 +210,10 @@ fn bound(
 {
     let body = Boxed::new(alloc, body)?;
     Ok(match binder {
-        Binder::OfType => Form::AllType(body),
+        Binder::OfType => match quantifier {
+            Quantifier::Universal => Form::AllType(body),
+            Quantifier::Existential => Form::ExType(body),
+        },
         Binder::OfTerm(ty) => match quantifier {
             Quantifier::Universal => Form::All(ty, body),
             Quantifier::Existential => Form::Ex(ty, body),
@@ -240,26 +221,16 @@ fn bound(
     })
 }
 
-fn is_universal(quantifier: Quantifier) -> bool
-    ensures { result ≡ typing.is_universal (quantifier_tree quantifier) }
-{
-    match quantifier {
-        Quantifier::Universal => true,
-        Quantifier::Existential => false,
-    }
-}
-
-/// The formula; `front` says that only universal quantifiers stand over it.
+/// The formula.
 #[cycle(form_in)]
 pub fn form_in<'a>(
     alloc: Global,
     symbols: &mut Symbols<'a>,
     scope: &mut Vec<Variable<'a>>,
-    front: bool,
     raw: &'a RawForm,
 ) -> Result<Form, Stop>
     ensures typed { GivesIn form_tree result symbols.new
-        (at.form_at (table_tree symbols.old) (scope_tree scope.old.items) front (raw_form_tree raw.entry.now)) }
+        (at.form_at (table_tree symbols.old) (scope_tree scope.old.items) (raw_form_tree raw.entry.now)) }
     ensures scope { OnOk result (scope.new.items ≡ scope.old.items) }
 {
     match raw {
@@ -314,7 +285,6 @@ pub fn form_in<'a>(
                 symbols,
                 scope,
                 Quantifier::Universal,
-                front,
                 variable,
                 body.get(),
             )
@@ -325,7 +295,6 @@ pub fn form_in<'a>(
                 symbols,
                 scope,
                 Quantifier::Existential,
-                front,
                 variable,
                 body.get(),
             )
@@ -341,11 +310,11 @@ fn negation<'a>(
     body: &'a RawForm,
 ) -> Result<Form, Stop>
     ensures typed { GivesIn form_tree result symbols.new
-        (at.form_at (table_tree symbols.old) (scope_tree scope.old.items) false
+        (at.form_at (table_tree symbols.old) (scope_tree scope.old.items)
         (raw.RawForm.negation (raw_form_tree body.entry.now))) }
     ensures scope { OnOk result (scope.new.items ≡ scope.old.items) }
 {
-    let form = form_in(alloc, symbols, scope, false, body)?;
+    let form = form_in(alloc, symbols, scope, body)?;
     Ok(Form::Not(Boxed::new(alloc, form)?))
 }
 
@@ -359,13 +328,13 @@ fn binary<'a>(
     second: &'a RawForm,
 ) -> Result<Form, Stop>
     ensures typed { GivesIn form_tree result symbols.new
-        (at.form_at (table_tree symbols.old) (scope_tree scope.old.items) false
+        (at.form_at (table_tree symbols.old) (scope_tree scope.old.items)
         (raw.RawForm.binary (connective_tree connective) (raw_form_tree first.entry.now)
         (raw_form_tree second.entry.now))) }
     ensures scope { OnOk result (scope.new.items ≡ scope.old.items) }
 {
-    let left = form_in(alloc, symbols, scope, false, first)?;
-    let right = form_in(alloc, symbols, scope, false, second)?;
+    let left = form_in(alloc, symbols, scope, first)?;
+    let right = form_in(alloc, symbols, scope, second)?;
     Ok(connected(alloc, connective, left, right)?)
 }
 
@@ -376,35 +345,21 @@ fn quantified<'a>(
     symbols: &mut Symbols<'a>,
     scope: &mut Vec<Variable<'a>>,
     quantifier: Quantifier,
-    front: bool,
     variable: &'a RawVar,
     body: &'a RawForm,
 ) -> Result<Form, Stop>
     ensures typed { GivesIn form_tree result symbols.new
-        (at.form_at (table_tree symbols.old) (scope_tree scope.old.items) front
+        (at.form_at (table_tree symbols.old) (scope_tree scope.old.items)
         (raw.RawForm.quantified (quantifier_tree quantifier) (raw_variable_tree variable.entry.now)
         (raw_form_tree body.entry.now))) }
     ensures scope { OnOk result (scope.new.items ≡ scope.old.items) }
 {
     let depth = scope.len();
-    let binder = binder_in(
-        alloc,
-        symbols,
-        scope.as_slice(),
-        quantifier,
-        front,
-        &variable.ty,
-    )?;
+    let binder = binder_in(alloc, symbols, scope.as_slice(), &variable.ty)?;
     let outer = indexed_binder(alloc, &binder, depth)?;
     let name = variable.name.text();
     scope.push(Variable { name, binder })?;
-    let form = form_in(
-        alloc,
-        symbols,
-        scope,
-        front && is_universal(quantifier),
-        body,
-    )?;
+    let form = form_in(alloc, symbols, scope, body)?;
     scope.truncate(depth);
     Ok(bound(alloc, quantifier, outer, form)?)
 }

@@ -32,8 +32,8 @@ pub fn rules_agree()
         → DenotesType table s t u ↔ (type_in table s t ≡ Ok u) }
     ensures expressions { (table : Table) (s : Scope) (place : Place) (u : RawTerm) (x : Expression) (after : Table)
         → DenotesExpression table s place u x after ↔ (expression_in table s place u ≡ gives after x) }
-    ensures forms { (table : Table) (s : Scope) (front : Bool) (f : RawForm) (g : Form) (after : Table)
-        → DenotesForm table s front f g after ↔ (form_in table s front f ≡ gives after g) }
+    ensures forms { (table : Table) (s : Scope) (f : RawForm) (g : Form) (after : Table)
+        → DenotesForm table s f g after ↔ (form_in table s f ≡ gives after g) }
     ensures problems { (statements : List RawStatement) (p : Problem)
         → MakeProblem statements p ↔ (problem_in statements ≡ Ok p) }
     ensures states { (state after : State) (s : RawStatement)

@@ -35,10 +35,10 @@ fn premise_role(role: RawRole) -> Option<Role>
 // A formula outside of which no variable is bound.
 fn closed_form<'a>(alloc: Global, symbols: &mut Symbols<'a>, raw: &'a RawForm) -> Result<Form, Stop>
     ensures { GivesIn form_tree result symbols.new
-        (at.form_at (table_tree symbols.old) [] true (raw_form_tree raw.entry.now)) }
+        (at.form_at (table_tree symbols.old) [] (raw_form_tree raw.entry.now)) }
 {
     let mut scope = Vec::new(alloc);
-    form_in(alloc, symbols, &mut scope, true, raw)
+    form_in(alloc, symbols, &mut scope, raw)
 }
 
 // One more premise.

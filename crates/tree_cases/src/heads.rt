@@ -37,6 +37,7 @@ pub(crate) enum FormHead {
     All,
     Ex,
     AllType,
+    ExType,
 }
 
 /// The first word of a tree, or the one word of a leaf.
@@ -62,6 +63,7 @@ fn named(word: &[u8]) -> Option<Head> {
         b"all" => Head::OfForm(FormHead::All),
         b"ex" => Head::OfForm(FormHead::Ex),
         b"allt" => Head::OfForm(FormHead::AllType),
+        b"ext" => Head::OfForm(FormHead::ExType),
         _ => return None,
     })
 }

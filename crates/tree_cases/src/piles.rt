@@ -247,6 +247,11 @@ impl Piles {
         self.put_made(Form::AllType(form))
     }
 
+    fn put_some_type(&mut self, mark: Mark) -> Result<(), CaseFault> {
+        let form = self.only_form(mark)?;
+        self.put_made(Form::ExType(form))
+    }
+
     fn put_form(&mut self, head: FormHead, mark: Mark) -> Result<(), CaseFault> {
         match head {
             FormHead::True => self.put_constant(Form::True, mark),
@@ -258,6 +263,7 @@ impl Piles {
             FormHead::All => self.put_all(mark),
             FormHead::Ex => self.put_some(mark),
             FormHead::AllType => self.put_all_types(mark),
+            FormHead::ExType => self.put_some_type(mark),
         }
     }
 

@@ -135,6 +135,7 @@ fn word(form: &Form) -> &'static str {
         Form::All(_, _) => "all",
         Form::Ex(_, _) => "ex",
         Form::AllType(_) => "allt",
+        Form::ExType(_) => "ext",
     }
 }
 
@@ -151,7 +152,7 @@ pub(crate) fn put_form(out: &mut String, form: &Form) -> Result<(), AllocError> 
         Form::True | Form::False => out.push_str(word(form)),
         Form::Atom(symbol, types, terms) => put_atom(out, *symbol, types, terms),
         Form::Equal(ty, left, right) => put_equal(out, ty, left, right),
-        Form::Not(f) | Form::AllType(f) => {
+        Form::Not(f) | Form::AllType(f) | Form::ExType(f) => {
             put_word(out, word(form))?;
             put_inside(out, f)?;
             out.push(')')

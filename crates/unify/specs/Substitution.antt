@@ -41,4 +41,4 @@ put_form a (Form.equal t x y) = Form.equal (put_type a t) (put_term a x) (put_te
 put_form a (Form.negation f) = Form.negation (put_form a f)
 put_form a (Form.binary c f g) = Form.binary c (put_form a f) (put_form a g)
 put_form a (Form.quantified q t f) = Form.quantified q (put_type a t) (put_form a f)
-put_form a (Form.for_all_types f) = Form.for_all_types (put_form a f)
+put_form a (Form.quantified_types q f) = Form.quantified_types q (put_form a f)

@@ -64,7 +64,7 @@ truth-agrees v w (Form.binary c f g) i h =
     let q = truth-agrees v w g i.1 (λ a k. h a (Contains-append_right (atoms f) (atoms g) a k)) in
     ap (λ x. connected c x (truth_of v g)) p ∙ ap (λ x. connected c (truth_of w f) x) q
 truth-agrees v w (Form.quantified q t f) i h = refl
-truth-agrees v w (Form.for_all_types f) i h = refl
+truth-agrees v w (Form.quantified_types q f) i h = refl
 
 pub flat-contains : (fs : List Form) (f a : Form) → Contains fs f → Contains (atoms f) a → Contains (flat_map atoms fs) a
 flat-contains [] f a h k = absurd (Contains-none f h)

@@ -28,7 +28,7 @@ atom_is_closed (Form.negation f) a q i n h = atom_is_closed f a q i n h
 atom_is_closed (Form.binary c f g) a q i n h =
     elim (Contains-append_cases (atoms f) (atoms g) a h) [ inl k ↦ atom_is_closed f a q.0 i.0 n.0 k | inr k ↦ atom_is_closed g a q.1 i.1 n.1 k ]
 atom_is_closed (Form.quantified x t f) a q i n h = absurd q
-atom_is_closed (Form.for_all_types f) a q i n h = absurd q
+atom_is_closed (Form.quantified_types x f) a q i n h = absurd q
 
 problem_form : (p : Problem) (f : Form) → IsTypedProblem p → Contains (formulas p) f → IsProblemForm p.symbols f
 problem_form p f typed h =

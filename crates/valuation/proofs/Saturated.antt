@@ -87,4 +87,4 @@ agrees b (Form.binary Connective.equivalence f g) e o i =
       ];
     }
 agrees b (Form.quantified q t f) e o i = absurd i
-agrees b (Form.for_all_types f) e o i = absurd i
+agrees b (Form.quantified_types q f) e o i = absurd i

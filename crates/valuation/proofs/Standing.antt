@@ -14,14 +14,14 @@ other (Form.equal t x y) (Form.atom p ts us) e h = refl
 other (Form.negation f) (Form.atom p ts us) e h = refl
 other (Form.binary c f g) (Form.atom p ts us) e h = refl
 other (Form.quantified q t f) (Form.atom p ts us) e h = refl
-other (Form.for_all_types f) (Form.atom p ts us) e h = refl
+other (Form.quantified_types q f) (Form.atom p ts us) e h = refl
 other g Form.truth e h = absurd (let z = e in cc)
 other g Form.falsity e h = absurd (let z = e in cc)
 other g (Form.equal t x y) e h = absurd (let z = e in cc)
 other g (Form.negation f) e h = absurd (let z = e in cc)
 other g (Form.binary c f k) e h = absurd (let z = e in cc)
 other g (Form.quantified q t f) e h = absurd (let z = e in cc)
-other g (Form.for_all_types f) e h = absurd (let z = e in cc)
+other g (Form.quantified_types q f) e h = absurd (let z = e in cc)
 
 has_among : (b : List Form) (a : Form) → is_atom a ≡ true → has (filter is_atom b) a ≡ has b a
 has_among [] a e = refl
@@ -49,7 +49,7 @@ atoms_are (Form.equal t a b) = tt
 atoms_are (Form.negation f) = atoms_are f
 atoms_are (Form.binary c f g) = append_atoms (atoms f) (atoms g) (atoms_are f) (atoms_are g)
 atoms_are (Form.quantified q t f) = tt
-atoms_are (Form.for_all_types f) = tt
+atoms_are (Form.quantified_types q f) = tt
 
 all_are : (fs : List Form) → AreAtoms (flat_map atoms fs)
 all_are [] = tt

@@ -20,8 +20,12 @@ pub fn eval(valuation: &[Valued], form: &Form) -> bool
         Form::Or(f, g) => eval(valuation, f.get()) || eval(valuation, g.get()),
         Form::Imp(f, g) => !eval(valuation, f.get()) || eval(valuation, g.get()),
         Form::Iff(f, g) => eval(valuation, f.get()) == eval(valuation, g.get()),
-        Form::False | Form::Equal(_, _, _) | Form::All(_, _) | Form::Ex(_, _) | Form::AllType(_) =>
-            false,
+        Form::False
+        | Form::Equal(_, _, _)
+        | Form::All(_, _)
+        | Form::Ex(_, _)
+        | Form::AllType(_)
+        | Form::ExType(_) => false,
     }
 }
 

@@ -89,7 +89,8 @@ fn is_atom(store: &Store, form: FormId) -> bool
         | FormNode::Iff(_, _)
         | FormNode::All(_, _)
         | FormNode::Ex(_, _)
-        | FormNode::AllType(_) => false,
+        | FormNode::AllType(_)
+        | FormNode::ExType(_) => false,
     }
 }
 
@@ -157,6 +158,7 @@ fn add_atoms(alloc: Global, form: &Form, all: &mut Items<Form>) -> Result<(), Al
         | Form::Equal(_, _, _)
         | Form::All(_, _)
         | Form::Ex(_, _)
-        | Form::AllType(_) => Ok(()),
+        | Form::AllType(_)
+        | Form::ExType(_) => Ok(()),
     }
 }

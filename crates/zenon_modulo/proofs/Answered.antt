@@ -1,37 +1,80 @@
--- What is answered at each exit of a call is an answer, and its text goes with it.
-use Rattle.std.proofs.Common.{ℕ, ◌≡◌, ◌≤◌, ◌+◌, List, [], ◌∷◌, codes, Option, Some, None, IfSome, All, inl, inr, refl, sym, subst, arith}
-use Rattle.zm_base.specs.Outside.{Rose, ReadsAtMost}
+-- What is given at each exit of a part is an answer to the call.
+use Rattle.std.proofs.Common.{ℕ, ◌≡◌, ◌≢◌, false, List, [], ◌∷◌, codes, map, string_bytes, Option, Some, None, IfSome, IsSomeAnd, inl, inr, refl, sym, subst, ap}
+use Rattle.std.specs.Option.{option_map}
+use Rattle.zm_base.specs.Outside.{Rose}
 use Rattle.zm_base.specs.Library.{NamedFile, file_of}
-use Rattle.zm_logic.specs.Tree.{Form, Problem}
-use Rattle.zm_logic.specs.Problem.{IsTypedProblem}
-use Rattle.branch.specs.Tableau.{picks}
+use Rattle.zm_logic.specs.Tree.{Form, Symbol, Problem}
+use Rattle.tptp_include.specs.Gathering.{Placed, Refusal, Outcome as gathering, GathersAll}
 use Rattle.tptp_include.specs.declared.refusal.GatherRefusal.{GatherRefusal}
+use Rattle.tptp_include.specs.declared.refusal.GatherRefusal.TheVariants as gather
+use Rattle.tptp_include.specs.Outcomes.{refusal_of}
+use Rattle.tff_typing.specs.Fault.{Fault}
+use Rattle.tff_typing.specs.Rules.{MakeProblem}
+use Rattle.tff_typing.specs.View.{Refuses}
 use Rattle.tff_typing.specs.declared.typed.TypeRefusal.{TypeRefusal}
+use Rattle.zm_logic.specs.Problem.{IsTypedProblem}
 use Rattle.zenon_modulo.specs.declared.outcome.Outcome.{Outcome}
-use Rattle.zenon_modulo.specs.declared.outcome.Outcome.TheVariants.{Proved, Falsified, Unknown, Refused, Usage, ReadFault, LibraryFault, WriteFault, Memory}
+use Rattle.zenon_modulo.specs.declared.outcome.Outcome.TheVariants.{Refused, Usage, ReadFault, LibraryFault, Memory}
 use Rattle.zenon_modulo.specs.declared.outcome.InputRefusal.{InputRefusal}
-use Rattle.zenon_modulo.specs.declared.outcome.InputRefusal.TheVariants.{Gather, Typing, TooLarge, NotBuilt}
+use Rattle.zenon_modulo.specs.declared.outcome.InputRefusal.TheVariants.{Gather, Typing, NotBuilt}
 use Rattle.zenon_modulo.specs.declared.words.UsageRefusal.{UsageRefusal}
+use Rattle.zenon_modulo.specs.Fragments.{is_built}
 use Rattle.zenon_modulo.specs.Words.{Word, Operand, Command, IsCommand, IsMisuse}
 use Rattle.zenon_modulo.specs.WordsRead.{misuse_of}
-use Rattle.zenon_modulo.specs.Outcome.{IfSearched}
-use Rattle.zenon_modulo.specs.Input.{name_of, input_limit, IfTold, Makes, IsText, Spells, IsProblem, Ungathered, HasTooMany, Explains, IsTaken, IsCut}
-use Rattle.zenon_modulo.specs.Answer.{ForProblem, ForOperand, Call, IsAnswer}
-use Rattle.zenon_modulo.specs.Writing.{IsTextOf}
-use Rattle.zenon_modulo.specs.Report.{Reports, ExplainsText, AnswersText, IsRefusedOr, IsOperandRead}
+use Rattle.zenon_modulo.specs.Input.{Name, name_of, IfTold, IsGatheredFrom, Makes, IsFirstUntyped, IsText, Spells, Explains}
+use Rattle.zenon_modulo.specs.Answer.{Untyped, Explanation, Answer}
+use Rattle.zenon_modulo.specs.Outcome.{untyped_of, explanation_of}
+use Rattle.zenon_modulo.specs.Claims.{Words, Call, Claims, IsRefused, IsReadFor, IsOperandRead, HasReadFault}
+use Rattle.zenon_modulo.specs.Text.{out_text}
+use Rattle.zenon_modulo.specs.Writing.{IsAnswer}
+use Rattle.zenon_modulo.specs.Stages.{Gives, AsksFor, GivesFor, HasRead, IsRefusedOr, IsUngathered}
 
--- a problem, for answers that rest on none
+-- a problem, for answers that speak of none
 abbrev nothing : Problem
 nothing = record { symbols = []; premises = []; conjecture = Form.falsity }
 
-pub some_word : (words : List Word) (command : Command) → IsCommand words command → words ≡ [] → ⊥
-some_word words command (IsCommand.prove {word = word} {options = options} o a) e = filled (codes "prove") (word ∷ options) e
+some_word : (words : List Word) (operand : Operand) (steps : ℕ) → IsCommand words (Command.prove operand steps) → words ≡ [] → ⊥
+some_word words operand steps (IsCommand.prove {word = word} {options = options} o a) e = filled (codes "prove") (word ∷ options) e
   where
     filled : (x : Word) (xs : List Word) → x ∷ xs ≡ [] → ⊥
     filled x xs h = cc
 
+-- a command has words
+pub has_words : (words : Words) (operand : Operand) (steps : ℕ) → IsCommand (map string_bytes words) (Command.prove operand steps) → words ≢ []
+has_words words operand steps is e = some_word (map string_bytes words) operand steps is (ap (map string_bytes) e)
+
+module _ (c : Call) where
+  plain_answer : (a : Answer) (text : List ℕ) → Claims c nothing a → text ≡ out_text nothing a → IsAnswer c a text
+  plain_answer a text k w = record { problem = nothing; claims = k; written = w }
+
+  pub memory_given : (o : Outcome) (text : List ℕ) → o ≡ Memory → text ≡ [] → c.words ≢ [] → Gives c o text
+  memory_given o text e t some = subst (λ x. Gives c x text) (sym e) (plain_answer Answer.memory text some t)
+
+  pub usage_given : (r : UsageRefusal) (o : Outcome) (text : List ℕ) → o ≡ Usage r → text ≡ []
+      → IsMisuse (map string_bytes c.words) (misuse_of r) → c.left_now ≡ c.left → Gives c o text
+  usage_given r o text e t m same = subst (λ x. Gives c x text) (sym e) (plain_answer (Answer.misused (misuse_of r)) text (m, same) t)
+
+  pub read_fault_given : (o : Outcome) (text : List ℕ) → o ≡ ReadFault → text ≡ []
+      → HasReadFault c.words c.source_faults c.source_faults_now → Gives c o text
+  read_fault_given o text e t f = subst (λ x. Gives c x text) (sym e) (plain_answer Answer.read_fault text f t)
+
+  pub library_fault_given : (o : Outcome) (text : List ℕ) → o ≡ LibraryFault → text ≡ []
+      → Rose c.library_faults c.library_faults_now → IsOperandRead c.words c.left c.left_now → Gives c o text
+  library_fault_given o text e t f r = subst (λ x. Gives c x text) (sym e) (plain_answer Answer.library_fault text (f, r) t)
+
+  refused_is : (r : InputRefusal) (e : Explanation) (text : List ℕ) → explanation_of r ≡ Some e → text ≡ []
+      → IsRefused c.words c.left c.files e → IsReadFor c e → Gives c (Refused r) text
+  refused_is r e text x t w k =
+      subst (λ q. IsSomeAnd (option_map Answer.refused q) (λ a. IsAnswer c a text)) (sym x)
+      (plain_answer (Answer.refused e) text (w, k) t)
+
+  pub refused_given : (r : InputRefusal) (e : Explanation) (o : Outcome) (text : List ℕ) → explanation_of r ≡ Some e
+      → IsRefusedOr r o → text ≡ [] → c.words ≢ [] → IsRefused c.words c.left c.files e → IsReadFor c e → Gives c o text
+  refused_given r e o text x (inl h) t some w k = subst (λ y. Gives c y text) (sym h) (refused_is r e text x t w k)
+  refused_given r e o text x (inr h) t some w k = memory_given o text h t some
+
 -- what holds of the files that are told and of the operand's text
-told : (operand : Operand) (left : Option (List ℕ)) (files : Option (List NamedFile)) (bytes : List ℕ)
+pub told : (operand : Operand) (left : Option (List ℕ)) (files : Option (List NamedFile)) (bytes : List ℕ)
     → IfTold operand left files (λ fs text. text ≡ Some bytes) → (P : List NamedFile → Option (List ℕ) → Type 0)
     → ((fs : List NamedFile) (text : Option (List ℕ)) → files ≡ Some fs → text ≡ Some bytes → P fs text) → IfTold operand left files P
 told Operand.source left None bytes t P h = tt
@@ -43,344 +86,131 @@ told (Operand.file name) left (Some fs) bytes t P h = h fs (file_of fs name) ref
 some_given : (P : List NamedFile → Type 0) (files : Option (List NamedFile)) (fs : List NamedFile) → files ≡ Some fs → IfSome files P → P fs
 some_given P files fs e h = subst (λ f. IfSome f P) e h
 
-module _ (operand : Operand) (left left_now : Option (List ℕ)) (files : Option (List NamedFile)) (bytes : List ℕ) (read : IsOperandRead operand left left_now files bytes) where
+-- the first fault of typing, as plain data
+first_untyped : (list : List Placed) (t : TypeRefusal) → Refuses list t → IsFirstUntyped list (untyped_of t)
+first_untyped list t f = record {
+  refusal = f.refusal;
+  found = f.found;
+  placed = f.placed;
+  stands = f.stands;
+  told = same (untyped_of t) f.placed.file f.placed.at f.refusal.fault f.refusal.symbols f.file f.place f.fault f.symbols;
+}
+  where
+    same : (u : Untyped) (file : Name) (at : ℕ) (fault : Fault) (symbols : List Symbol) → u.file ≡ file → u.at ≡ at → u.fault ≡ fault
+        → u.symbols ≡ symbols → u ≡ record { file = file; at = at; fault = fault; symbols = symbols }
+    same u file at fault symbols a b c d =
+        subst (λ f. u ≡ record { file = f; at = at; fault = fault; symbols = symbols }) a
+        (subst (λ n. u ≡ record { file = u.file; at = n; fault = fault; symbols = symbols }) b
+        (subst (λ x. u ≡ record { file = u.file; at = u.at; fault = x; symbols = symbols }) c
+        (subst (λ l. u ≡ record { file = u.file; at = u.at; fault = u.fault; symbols = l }) d refl)))
+
+-- a call whose operand was read
+module _ (c : Call) (name : Name) (bytes : List ℕ) (steps : ℕ) (h : HasRead c name bytes steps) where
+  pub read_operand : IsOperandRead c.words c.left c.left_now
+  read_operand = record { operand = h.operand; steps = steps; is_command = h.is_command; holds = h.taken }
+
+  pub read_words : c.words ≢ []
+  read_words = has_words c.words h.operand steps h.is_command
+
   is_text : (text : Option (List ℕ)) → text ≡ Some bytes → IsText text bytes
-  is_text text e = record { is_there = e; within = read.fits }
+  is_text text e = record { is_there = e; within = h.fits }
 
-  spelled : (p : Problem) → IfSome files (λ fs. Makes fs (name_of operand) bytes p) → IfTold operand left files (λ fs text. Spells operand fs text p)
-  spelled p m = told operand left files bytes read.text (λ fs text. Spells operand fs text p)
-      (λ fs text e t. record { bytes = bytes; is_text = is_text text t; makes = some_given (λ fs. Makes fs (name_of operand) bytes p) files fs e m })
+  -- what is said of the text by its name is said of the operand's text
+  of_operand : (P : List NamedFile → Name → Type 0) (fs : List NamedFile) → c.files ≡ Some fs → IfSome c.files (λ f. P f name)
+      → P fs (name_of h.operand)
+  of_operand P fs e s = subst (P fs) (sym h.named) (some_given (λ f. P f name) c.files fs e s)
 
-  explained : (refusal : InputRefusal) → ExplainsText files (name_of operand) bytes refusal → IfTold operand left files (λ fs text. Explains operand fs text refusal)
-  explained (Gather g) x = told operand left files bytes read.text (λ fs text. Explains operand fs text (Gather g))
-      (λ fs text e t. (x.0, x.1, Ungathered.refused (is_text text t) (some_given _ files fs e x.2)))
-  explained (Typing r) x = told operand left files bytes read.text (λ fs text. Explains operand fs text (Typing r))
-      (λ fs text e t. (bytes, x.0, is_text text t, some_given _ files fs e x.1, x.2))
-  explained TooLarge x = absurd x
-  explained NotBuilt x = told operand left files bytes read.text (λ fs text. Explains operand fs text NotBuilt)
-      (λ fs text e t. (x.0, record { bytes = bytes; is_text = is_text text t; makes = some_given (λ fs. Makes fs (name_of operand) bytes x.0) files fs e x.1 }, x.2))
+  spells : (p : Problem) (fs : List NamedFile) (text : Option (List ℕ)) → c.files ≡ Some fs → text ≡ Some bytes
+      → IfSome c.files (λ f. Makes f name bytes p) → Spells h.operand fs text p
+  spells p fs text e t m = record { bytes = bytes; is_text = is_text text t; makes = of_operand (λ f n. Makes f n bytes p) fs e m }
 
-module _ (c : Call) (reads : ReadsAtMost (input_limit + 1) c.left c.left_now) (source_later : c.source_faults ≤ c.source_faults_now) (library_later : c.library_faults ≤ c.library_faults_now) where
-  apart_refusals : (x y : InputRefusal) → (x ≡ y → ⊥) → Refused x ≡ Refused y → ⊥
-  apart_refusals x y n e = n (same x y e)
-    where
-      same : (x y : InputRefusal) → Refused x ≡ Refused y → x ≡ y
-      same x y e = cc
+  pub asks_for : (p : Problem) → IfSome c.files (λ f. Makes f name bytes p) → IsTypedProblem p → AsksFor c p steps
+  asks_for p m w = (
+    record {
+      operand = h.operand;
+      steps = steps;
+      is_command = h.is_command;
+      holds = (record { spelled = told h.operand c.left c.files bytes h.text (λ fs text. Spells h.operand fs text p) (λ fs text e t. spells p fs text e t m); typed = w }, refl);
+    },
+    read_operand,
+  )
 
-  for_problem : (command : Command) → IsCommand c.words command → (claim : ℕ → Problem → Type 0) (p : Problem) → IsProblem command.operand c.left c.files p → claim command.steps p
-      → ForProblem c.words c.left c.files claim
-  for_problem command is claim p s h = record { command = command; is_command = is; problem = p; is_problem = s; holds = h }
-
-  for_operand : (command : Command) → IsCommand c.words command → (claim : Operand → Type 0) → claim command.operand → ForOperand c.words claim
-  for_operand command is claim h = record { command = command; is_command = is; holds = h }
-
-  searched : (command : Command) → IsCommand c.words command → (p : Problem) → IsProblem command.operand c.left c.files p → IsTaken command.operand c.left c.left_now → (o : Outcome)
-      → Reports command.steps p o → IfSearched o (λ tree. All (λ k. k ≡ 0) (picks tree)) → IsAnswer c o
-  searched command is p s taken (Proved t) r k = record {
-    proved = for_problem command is _ p s r;
-    falsified = tt;
-    unknown = tt;
-    picks = k;
-    refused = tt;
-    usage = tt;
-    no_words = λ e d. cc;
-    read_fault = λ e. cc;
-    library_fault = λ e. cc;
-    untouched = tt;
-    taken = for_operand command is (λ operand. IsTaken operand c.left c.left_now) taken;
-    cut = λ e. cc;
-    reads = reads;
-    source_later = source_later;
-    library_later = library_later;
-    no_write_fault = λ e. cc;
-  }
-  searched command is p s taken (Falsified v t) r k = record {
-    proved = tt;
-    falsified = for_problem command is _ p s r;
-    unknown = tt;
-    picks = k;
-    refused = tt;
-    usage = tt;
-    no_words = λ e d. cc;
-    read_fault = λ e. cc;
-    library_fault = λ e. cc;
-    untouched = tt;
-    taken = for_operand command is (λ operand. IsTaken operand c.left c.left_now) taken;
-    cut = λ e. cc;
-    reads = reads;
-    source_later = source_later;
-    library_later = library_later;
-    no_write_fault = λ e. cc;
-  }
-  searched command is p s taken (Unknown y t) r k = record {
-    proved = tt;
-    falsified = tt;
-    unknown = for_problem command is _ p s r;
-    picks = k;
-    refused = tt;
-    usage = tt;
-    no_words = λ e d. cc;
-    read_fault = λ e. cc;
-    library_fault = λ e. cc;
-    untouched = tt;
-    taken = for_operand command is (λ operand. IsTaken operand c.left c.left_now) taken;
-    cut = λ e. cc;
-    reads = reads;
-    source_later = source_later;
-    library_later = library_later;
-    no_write_fault = λ e. cc;
-  }
-  searched command is p s taken (Refused x) r k = absurd r
-  searched command is p s taken (Usage x) r k = absurd r
-  searched command is p s taken ReadFault r k = absurd r
-  searched command is p s taken LibraryFault r k = absurd r
-  searched command is p s taken WriteFault r k = absurd r
-  searched command is p s taken Memory r k = absurd r
-
-  gather_answer : (g : GatherRefusal) → (command : Command) → IsCommand c.words command → IfTold command.operand c.left c.files (λ fs text. Explains command.operand fs text (Gather g)) → IsTaken command.operand c.left c.left_now → IsAnswer c (Refused (Gather g))
-  gather_answer g command is x taken = record {
-    proved = tt;
-    falsified = tt;
-    unknown = tt;
-    picks = tt;
-    refused = record { command = command; is_command = is; holds = x };
-    usage = tt;
-    no_words = λ e d. cc;
-    read_fault = λ e. cc;
-    library_fault = λ e. cc;
-    untouched = tt;
-    taken = for_operand command is (λ operand. IsTaken operand c.left c.left_now) taken;
-    cut = λ e. absurd (two e);
-    reads = reads;
-    source_later = source_later;
-    library_later = library_later;
-    no_write_fault = λ e. cc;
-  }
-    where
-      two : Refused (Gather g) ≡ Refused TooLarge → ⊥
-      two e = apart_refusals (Gather g) TooLarge (λ d. cc) e
-
-  typing_answer : (r : TypeRefusal) → (command : Command) → IsCommand c.words command → IfTold command.operand c.left c.files (λ fs text. Explains command.operand fs text (Typing r)) → IsTaken command.operand c.left c.left_now → IsAnswer c (Refused (Typing r))
-  typing_answer r command is x taken = record {
-    proved = tt;
-    falsified = tt;
-    unknown = tt;
-    picks = tt;
-    refused = record { command = command; is_command = is; holds = x };
-    usage = tt;
-    no_words = λ e d. cc;
-    read_fault = λ e. cc;
-    library_fault = λ e. cc;
-    untouched = tt;
-    taken = for_operand command is (λ operand. IsTaken operand c.left c.left_now) taken;
-    cut = λ e. absurd (two e);
-    reads = reads;
-    source_later = source_later;
-    library_later = library_later;
-    no_write_fault = λ e. cc;
-  }
-    where
-      two : Refused (Typing r) ≡ Refused TooLarge → ⊥
-      two e = apart_refusals (Typing r) TooLarge (λ d. cc) e
-
-  unbuilt_answer : (command : Command) → IsCommand c.words command → IfTold command.operand c.left c.files (λ fs text. Explains command.operand fs text NotBuilt) → IsTaken command.operand c.left c.left_now → IsAnswer c (Refused NotBuilt)
-  unbuilt_answer command is x taken = record {
-    proved = tt;
-    falsified = tt;
-    unknown = tt;
-    picks = tt;
-    refused = record { command = command; is_command = is; holds = x };
-    usage = tt;
-    no_words = λ e d. cc;
-    read_fault = λ e. cc;
-    library_fault = λ e. cc;
-    untouched = tt;
-    taken = for_operand command is (λ operand. IsTaken operand c.left c.left_now) taken;
-    cut = λ e. absurd (two e);
-    reads = reads;
-    source_later = source_later;
-    library_later = library_later;
-    no_write_fault = λ e. cc;
-  }
-    where
-      two : Refused NotBuilt ≡ Refused TooLarge → ⊥
-      two e = apart_refusals NotBuilt TooLarge (λ d. cc) e
-
-  pub too_large_answer : (command : Command) → IsCommand c.words command → IfTold command.operand c.left c.files (λ fs text. HasTooMany text) → IsCut command.operand c.left c.left_now → IsAnswer c (Refused TooLarge)
-  too_large_answer command is x cut = record {
-    proved = tt;
-    falsified = tt;
-    unknown = tt;
-    picks = tt;
-    refused = record { command = command; is_command = is; holds = x };
-    usage = tt;
-    no_words = λ e d. cc;
-    read_fault = λ e. cc;
-    library_fault = λ e. cc;
-    untouched = tt;
-    taken = tt;
-    cut = λ e. for_operand command is (λ operand. IsCut operand c.left c.left_now) cut;
-    reads = reads;
-    source_later = source_later;
-    library_later = library_later;
-    no_write_fault = λ e. cc;
+  explained : (x : Explanation)
+      → ((fs : List NamedFile) (text : Option (List ℕ)) → c.files ≡ Some fs → IsText text bytes → Explains h.operand fs text x)
+      → IsRefused c.words c.left c.files x
+  explained x k = record {
+    operand = h.operand;
+    steps = steps;
+    is_command = h.is_command;
+    holds = told h.operand c.left c.files bytes h.text (λ fs text. Explains h.operand fs text x) (λ fs text e t. k fs text e (is_text text t));
   }
 
-  pub refused_answer : (refusal : InputRefusal) (command : Command) → IsCommand c.words command → IfTold command.operand c.left c.files (λ fs text. Explains command.operand fs text refusal)
-      → (refusal ≡ TooLarge → ⊥) → IsTaken command.operand c.left c.left_now → IsAnswer c (Refused refusal)
-  refused_answer (Gather g) command is x n taken = gather_answer g command is x taken
-  refused_answer (Typing r) command is x n taken = typing_answer r command is x taken
-  refused_answer TooLarge command is x n taken = absurd (n refl)
-  refused_answer NotBuilt command is x n taken = unbuilt_answer command is x taken
+  -- refusals of a text that was read
+  pub ungathered_given : (g : GatherRefusal) (r : Refusal) (o : Outcome) (text : List ℕ) → refusal_of g ≡ Some r
+      → IfSome c.files (λ f. GathersAll f name bytes (gathering.refused r)) → IsRefusedOr (Gather g) o → text ≡ [] → Gives c o text
+  ungathered_given g r o text e k x t =
+      refused_given c (Gather g) (Explanation.ungathered r) o text (ap (option_map Explanation.ungathered) e) x t read_words
+      (explained (Explanation.ungathered r)
+      (λ fs q d i. Explains.ungathered i (of_operand (λ f n. GathersAll f n bytes (gathering.refused r)) fs d k))) read_operand
 
-  pub read_fault_answer : (command : Command) → IsCommand c.words command → command.operand ≡ Operand.source → Rose c.source_faults c.source_faults_now → IsAnswer c ReadFault
-  read_fault_answer command is s rose = record {
-    proved = tt;
-    falsified = tt;
-    unknown = tt;
-    picks = tt;
-    refused = tt;
-    usage = tt;
-    no_words = λ e d. cc;
-    read_fault = λ e. (for_operand command is (λ operand. operand ≡ Operand.source) s, rose);
-    library_fault = λ e. cc;
-    untouched = tt;
-    taken = tt;
-    cut = λ e. cc;
-    reads = reads;
-    source_later = source_later;
-    library_later = library_later;
-    no_write_fault = λ e. cc;
-  }
+  pub untyped_given : (list : List Placed) (u : TypeRefusal) (o : Outcome) (text : List ℕ)
+      → IfSome c.files (λ f. IsGatheredFrom f name bytes list) → Refuses list u → IsRefusedOr (Typing u) o → text ≡ [] → Gives c o text
+  untyped_given list u o text k f x t =
+      refused_given c (Typing u) (Explanation.untyped (untyped_of u)) o text refl x t read_words
+      (explained (Explanation.untyped (untyped_of u))
+      (λ fs q d i. Explains.untyped i (of_operand (λ f n. IsGatheredFrom f n bytes list) fs d k) (first_untyped list u f))) read_operand
 
-  pub library_fault_answer : (command : Command) → IsCommand c.words command → IsTaken command.operand c.left c.left_now → Rose c.library_faults c.library_faults_now → IsAnswer c LibraryFault
-  library_fault_answer command is taken rose = record {
-    proved = tt;
-    falsified = tt;
-    unknown = tt;
-    picks = tt;
-    refused = tt;
-    usage = tt;
-    no_words = λ e d. cc;
-    read_fault = λ e. cc;
-    library_fault = λ e. (for_operand command is (λ operand. Unit {0}) tt, rose);
-    untouched = tt;
-    taken = for_operand command is (λ operand. IsTaken operand c.left c.left_now) taken;
-    cut = λ e. cc;
-    reads = reads;
-    source_later = source_later;
-    library_later = library_later;
-    no_write_fault = λ e. cc;
-  }
+  pub not_built_given : (p : Problem) (o : Outcome) (text : List ℕ) → IfSome c.files (λ f. Makes f name bytes p) → is_built p ≡ false
+      → IsRefusedOr NotBuilt o → text ≡ [] → Gives c o text
+  not_built_given p o text m b x t =
+      refused_given c NotBuilt Explanation.not_built o text refl x t read_words
+      (explained Explanation.not_built (λ fs q d i. Explains.not_built (spells p fs q d i.is_there m) b)) read_operand
 
-  pub memory_answer : (c.words ≡ [] → ⊥) → IsAnswer c Memory
-  memory_answer some = record {
-    proved = tt;
-    falsified = tt;
-    unknown = tt;
-    picks = tt;
-    refused = tt;
-    usage = tt;
-    no_words = λ e d. some e;
-    read_fault = λ e. cc;
-    library_fault = λ e. cc;
-    untouched = tt;
-    taken = tt;
-    cut = λ e. cc;
-    reads = reads;
-    source_later = source_later;
-    library_later = library_later;
-    no_write_fault = λ e. cc;
-  }
+  -- a refusal of gathering, where it says something of the input
+  gather_given : (g : GatherRefusal) (r : Refusal) (o : Outcome) (text : List ℕ) → refusal_of g ≡ Some r
+      → IfSome (refusal_of g) (λ r. IfSome c.files (λ f. GathersAll f name bytes (gathering.refused r)))
+      → IsRefusedOr (Gather g) o → text ≡ [] → Gives c o text
+  gather_given g r o text e k x t =
+      ungathered_given g r o text e (subst (λ q. IfSome q (λ r. IfSome c.files (λ f. GathersAll f name bytes (gathering.refused r)))) e k) x t
 
-  pub usage_answer : (refusal : UsageRefusal) → IsMisuse c.words (misuse_of refusal) → c.left_now ≡ c.left → IsAnswer c (Usage refusal)
-  usage_answer refusal m same = record {
-    proved = tt;
-    falsified = tt;
-    unknown = tt;
-    picks = tt;
-    refused = tt;
-    usage = m;
-    no_words = λ e d. cc;
-    read_fault = λ e. cc;
-    library_fault = λ e. cc;
-    untouched = same;
-    taken = tt;
-    cut = λ e. cc;
-    reads = reads;
-    source_later = source_later;
-    library_later = library_later;
-    no_write_fault = λ e. cc;
-  }
+  pub gathering_given : (g : GatherRefusal) (o : Outcome) (text : List ℕ)
+      → IfSome (refusal_of g) (λ r. IfSome c.files (λ f. GathersAll f name bytes (gathering.refused r)))
+      → (o ≡ LibraryFault → Rose c.library_faults c.library_faults_now) → IsUngathered g o → text ≡ [] → Gives c o text
+  gathering_given (gather.Syntax place) o text h f x t = gather_given (gather.Syntax place) (Refusal.syntax place.file place.at) o text refl h x t
+  gathering_given (gather.TooDeep place) o text h f x t = gather_given (gather.TooDeep place) (Refusal.too_deep place.file place.at) o text refl h x t
+  gathering_given (gather.Unsupported form place) o text h f x t = gather_given (gather.Unsupported form place) (Refusal.unsupported form place.file place.at) o text refl h x t
+  gathering_given (gather.IncludeDepth file) o text h f x t = gather_given (gather.IncludeDepth file) (Refusal.include_depth file) o text refl h x t
+  gathering_given (gather.Cycle file) o text h f x t = gather_given (gather.Cycle file) (Refusal.cycle file) o text refl h x t
+  gathering_given (gather.Missing file) o text h f x t = gather_given (gather.Missing file) (Refusal.missing file) o text refl h x t
+  gathering_given gather.LibraryFault o text h f x t = library_fault_given c o text x t (f x) read_operand
+  gathering_given gather.TooLarge o text h f x t = gather_given gather.TooLarge Refusal.too_large o text refl h x t
+  gathering_given (gather.NoSuchFormula file) o text h f x t = gather_given (gather.NoSuchFormula file) (Refusal.no_such_formula file) o text refl h x t
+  gathering_given gather.Memory o text h f x t = memory_given c o text x t read_words
 
-  some_words : (command : Command) → IsCommand c.words command → c.words ≡ [] → ⊥
-  some_words command is e = some_word c.words command is e
+  pub searched_given : (p : Problem) (o : Outcome) (text : List ℕ) → IfSome c.files (λ f. Makes f name bytes p) → IsTypedProblem p
+      → GivesFor p steps o text → Gives c o text
+  searched_given p o text m w g = g c (asks_for p m w)
 
-  problem_of : (command : Command) (bytes : List ℕ) → IsOperandRead command.operand c.left c.left_now c.files bytes → (p : Problem)
-      → IfSome c.files (λ fs. Makes fs (name_of command.operand) bytes p) → IsTypedProblem p → IsProblem command.operand c.left c.files p
-  problem_of command bytes r p m w = record { spelled = spelled command.operand c.left c.left_now c.files bytes r p m; typed = w }
+  pub out_of_memory : (o : Outcome) (text : List ℕ) → o ≡ Memory → text ≡ [] → Gives c o text
+  out_of_memory o text e t = memory_given c o text e t read_words
 
-  -- an answer to the text of the operand
-  pub read_answer : (command : Command) (bytes : List ℕ) (o : Outcome) (text : List ℕ) → IsCommand c.words command
-      → IsOperandRead command.operand c.left c.left_now c.files bytes → AnswersText c.files (name_of command.operand) bytes command.steps o text
-      → (o ≡ LibraryFault → Rose c.library_faults c.library_faults_now) → IsAnswer c o
-  read_answer command bytes (Proved t) text is r a f = searched command is a.problem (problem_of command bytes r a.problem a.makes a.typed) r.taken (Proved t) a.report.reports a.report.picked
-  read_answer command bytes (Falsified v t) text is r a f = searched command is a.problem (problem_of command bytes r a.problem a.makes a.typed) r.taken (Falsified v t) a.report.reports a.report.picked
-  read_answer command bytes (Unknown y t) text is r a f = searched command is a.problem (problem_of command bytes r a.problem a.makes a.typed) r.taken (Unknown y t) a.report.reports a.report.picked
-  read_answer command bytes (Refused TooLarge) text is r a f = absurd a.1
-  read_answer command bytes (Refused (Gather g)) text is r a f = gather_answer g command is (explained command.operand c.left c.left_now c.files bytes r (Gather g) a.1) r.taken
-  read_answer command bytes (Refused (Typing t)) text is r a f = typing_answer t command is (explained command.operand c.left c.left_now c.files bytes r (Typing t) a.1) r.taken
-  read_answer command bytes (Refused NotBuilt) text is r a f = unbuilt_answer command is (explained command.operand c.left c.left_now c.files bytes r NotBuilt a.1) r.taken
-  read_answer command bytes (Usage x) text is r a f = absurd a
-  read_answer command bytes ReadFault text is r a f = absurd a
-  read_answer command bytes LibraryFault text is r a f = library_fault_answer command is r.taken (f refl)
-  read_answer command bytes WriteFault text is r a f = absurd a
-  read_answer command bytes Memory text is r a f = memory_answer (some_words command is)
+pub makes_problem : (files : Option (List NamedFile)) (name : Name) (bytes : List ℕ) (list : List Placed) (p : Problem)
+    → IfSome files (λ fs. IsGatheredFrom fs name bytes list) → MakeProblem (map (λ s. s.statement) list) p → IfSome files (λ fs. Makes fs name bytes p)
+makes_problem None name bytes list p g e = tt
+makes_problem (Some fs) name bytes list p g e = record { list = list; gathered = g; typed = e }
 
-  pub read_text : (command : Command) (bytes : List ℕ) (o : Outcome) (text : List ℕ) → IsCommand c.words command
-      → IsOperandRead command.operand c.left c.left_now c.files bytes → AnswersText c.files (name_of command.operand) bytes command.steps o text → IsTextOf c o text
-  read_text command bytes (Proved t) text is r a = record {
-    problem = a.problem;
-    is_problem = for_problem command is _ a.problem (problem_of command bytes r a.problem a.makes a.typed) refl;
-    written = a.report.written;
-  }
-  read_text command bytes (Falsified v t) text is r a = record {
-    problem = a.problem;
-    is_problem = for_problem command is _ a.problem (problem_of command bytes r a.problem a.makes a.typed) refl;
-    written = a.report.written;
-  }
-  read_text command bytes (Unknown y t) text is r a = record {
-    problem = a.problem;
-    is_problem = for_problem command is _ a.problem (problem_of command bytes r a.problem a.makes a.typed) refl;
-    written = a.report.written;
-  }
-  read_text command bytes (Refused x) text is r a = record { problem = nothing; is_problem = tt; written = a.0 }
-  read_text command bytes (Usage x) text is r a = absurd a
-  read_text command bytes ReadFault text is r a = absurd a
-  read_text command bytes LibraryFault text is r a = record { problem = nothing; is_problem = tt; written = a }
-  read_text command bytes WriteFault text is r a = absurd a
-  read_text command bytes Memory text is r a = record { problem = nothing; is_problem = tt; written = a }
+pub gathers_list : (files told : Option (List NamedFile)) (name : Name) (bytes : List ℕ) (list : List Placed) → files ≡ told
+    → IfSome told (λ fs. (n : ℕ) × GathersAll fs name bytes (gathering.gathered list n)) → IfSome files (λ fs. IsGatheredFrom fs name bytes list)
+gathers_list files told name bytes list e g =
+    subst (λ f. IfSome f (λ fs. IsGatheredFrom fs name bytes list)) (sym e) (go told g)
+  where
+    go : (told : Option (List NamedFile)) → IfSome told (λ fs. (n : ℕ) × GathersAll fs name bytes (gathering.gathered list n))
+        → IfSome told (λ fs. IsGatheredFrom fs name bytes list)
+    go None g = tt
+    go (Some fs) g = record { count = g.0; gathered = g.1 }
 
--- an answer without a tableau has no text for the sink for results
-plain_is : (c : Call) (text : List ℕ) → text ≡ [] → (o : Outcome) → IfSearched o (λ tree. ⊥) → IsTextOf c o text
-plain_is c text e (Proved t) h = absurd h
-plain_is c text e (Falsified v t) h = absurd h
-plain_is c text e (Unknown y t) h = absurd h
-plain_is c text e (Refused x) h = record { problem = nothing; is_problem = tt; written = e }
-plain_is c text e (Usage x) h = record { problem = nothing; is_problem = tt; written = e }
-plain_is c text e ReadFault h = record { problem = nothing; is_problem = tt; written = e }
-plain_is c text e LibraryFault h = record { problem = nothing; is_problem = tt; written = e }
-plain_is c text e WriteFault h = record { problem = nothing; is_problem = tt; written = e }
-plain_is c text e Memory h = record { problem = nothing; is_problem = tt; written = e }
-
-pub plain_text : (c : Call) (o x : Outcome) (text : List ℕ) → o ≡ x → text ≡ [] → IfSearched x (λ tree. ⊥) → IsTextOf c o text
-plain_text c o x text same e h = subst (λ y. IsTextOf c y text) (sym same) (plain_is c text e x h)
-
-pub refused_text : (c : Call) (refusal : InputRefusal) (o : Outcome) (text : List ℕ) → IsRefusedOr refusal o → text ≡ [] → IsTextOf c o text
-refused_text c refusal o text (inl e) t = plain_text c o (Refused refusal) text e t tt
-refused_text c refusal o text (inr e) t = plain_text c o Memory text e t tt
-
--- a source that is left alone
-pub reads_nothing : (left : Option (List ℕ)) → ReadsAtMost (input_limit + 1) left left
-reads_nothing None = record { got = []; within = omega arith; front = refl }
-reads_nothing (Some bytes) = record { got = []; within = omega arith; front = refl }
+pub tells_files : (files told : Option (List NamedFile)) (name : Name) (bytes : List ℕ) (g : GatherRefusal) → files ≡ told
+    → IfSome (refusal_of g) (λ r. IfSome told (λ f. GathersAll f name bytes (gathering.refused r)))
+    → IfSome (refusal_of g) (λ r. IfSome files (λ f. GathersAll f name bytes (gathering.refused r)))
+tells_files files told name bytes g e h =
+    subst (λ q. IfSome (refusal_of g) (λ r. IfSome q (λ f. GathersAll f name bytes (gathering.refused r)))) (sym e) h

@@ -1,6 +1,6 @@
 -- What clap's answer says of the options of prove.
-use Rattle.std.proofs.Common.{◌≡◌, ◌≢◌, ℕ, true, List, [], ◌∷◌, Option, Result, Ok, Err, refl, sym, subst, ap, ap₂, ◌∙◌}
-use Rattle.clap.specs.Words.{App, app_of, is_simple, is_simple_and_free, fault_of, matches_of, first_of, first_value, found_of, rows_of, HasMatchesOf}
+use Rattle.std.proofs.Common.{◌≡◌, true, List, [], refl, sym, ap, ◌∙◌}
+use Rattle.clap.specs.Words.{App, is_simple, is_simple_and_free, fault_of, matches_of, first_of, first_value, found_of, HasMatchesOf}
 use Rattle.clap.specs.declared.parser.matches.ArgMatches.{ArgMatches}
 use Rattle.clap.proofs.OnLiterals.{clap_on_literals}
 use Rattle.clap.proofs.WalkLemmas.{first_value-rows}

@@ -1,5 +1,5 @@
 -- What words are, by their first ones.
-use Rattle.std.proofs.Common.{◌≡◌, ◌≢◌, ◌<◌, ◌≤◌, ℕ, [], ◌∷◌, List, map, codes, length, get_or, refl, arith, subst, sym, ap, ◌∙◌, Option, Some, None}
+use Rattle.std.proofs.Common.{◌≡◌, ◌<◌, ◌≤◌, ℕ, [], ◌∷◌, List, map, codes, length, get_or, refl, arith, subst, sym, ap, ◌∙◌, Option, Some, None}
 use Rattle.zenon_modulo.specs.Words.{Word, Operand, Command, Misuse, IsOperand, IsMisuse, IsCommand, AreOptions, AllowsSteps, steps_text}
 
 -- the operands of a word are alike: a word that begins with a hyphen and is more than that is none
@@ -13,8 +13,10 @@ source_is word e = subst (λ w. IsOperand w Operand.source) (sym e) IsOperand.hy
 pub file_is : (word name : Word) → (get_or word 0 0 ≡ 45 → ⊥) → name ≡ word → IsOperand word (Operand.file name)
 file_is word name n e = subst (λ w. IsOperand word (Operand.file w)) (sym e) (IsOperand.name n)
 
-pub command_is : (mode word : Word) (options : List Word) (command : Command) → mode ≡ codes "prove" → IsOperand word command.operand → AreOptions options command.steps → IsCommand (mode ∷ word ∷ options) command
-command_is mode word options command e o a = subst (λ m. IsCommand (m ∷ word ∷ options) command) (sym e) (IsCommand.prove o a)
+pub command_is : (mode word : Word) (options : List Word) (operand : Operand) (steps : ℕ) → mode ≡ codes "prove" → IsOperand word operand
+    → AreOptions options steps → IsCommand (mode ∷ word ∷ options) (Command.prove operand steps)
+command_is mode word options operand steps e o a =
+    subst (λ m. IsCommand (m ∷ word ∷ options) (Command.prove operand steps)) (sym e) (IsCommand.prove o a)
 
 pub bad_operand_is : (mode word told : Word) (options : List Word) → mode ≡ codes "prove" → ((operand : Operand) → IsOperand word operand → ⊥) → told ≡ word → IsMisuse (mode ∷ word ∷ options) (Misuse.bad_operand told)
 bad_operand_is mode word told options e n w =
@@ -49,5 +51,5 @@ few_allowed : (text : Option Word) (n : ℕ) → AllowsSteps text n → n ≤ 10
 few_allowed None n a = omega (arith, a)
 few_allowed (Some text) n a = a.2
 
-pub few_steps : (words : List Word) (command : Command) → IsCommand words command → command.steps ≤ 1000000
-few_steps words command (IsCommand.prove {options = options} o a) = few_allowed (steps_text options) command.steps a.steps_allowed
+pub few_steps : (words : List Word) (operand : Operand) (steps : ℕ) → IsCommand words (Command.prove operand steps) → steps ≤ 1000000
+few_steps words operand steps (IsCommand.prove {options = options} o a) = few_allowed (steps_text options) steps a.steps_allowed

@@ -7,7 +7,7 @@ use Rattle.std.specs.declared.alloc.Global.{Global}
 use Rattle.zenon_modulo.specs.declared.answer.FileStop.{FileStop}
 use Rattle.zenon_modulo.specs.declared.answer.FileStop.TheVariants as stops
 use Rattle.zenon_modulo.specs.Input.{HasTooMany, input_limit}
-use Rattle.zenon_modulo.specs.Report.{IsFile, IsFileRead}
+use Rattle.zenon_modulo.specs.Stages.{IsFile, IsFileRead}
 
 module _ (n : ℕ) (bytes : List ℕ) where
   front_some : (file : Option (List ℕ)) → Some bytes ≡ option_map (take n) file → (f : List ℕ) × (file ≡ Some f) × (bytes ≡ take n f)

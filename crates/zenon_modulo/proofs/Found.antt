@@ -1,6 +1,5 @@
 -- What follows from what a search found.
-use Rattle.std.proofs.Common.{ℕ, ◌≡◌, ◌≢◌, true, false, List, [], Some, Vec, refl, sym, ap, ap₂, subst, ◌∙◌}
-use Rattle.std.specs.declared.alloc.Global.{Global}
+use Rattle.std.proofs.Common.{ℕ, ◌≡◌, ◌≢◌, true, false, List, [], Some, refl, sym, ap, ap₂, subst, ◌∙◌}
 use Rattle.std.proofs.lemmas.Option.{same_Some}
 use Rattle.zm_logic.specs.Tree.{Form, Symbol, Problem}
 use Rattle.zm_logic.specs.Problem.{IsTypedProblem}
@@ -17,18 +16,14 @@ use Rattle.branch.specs.Causes.{cause_of}
 use Rattle.branch.specs.declared.why.Why.{Why}
 use Rattle.branch.proofs.Lawful.{closed_tableaux_prove_problems, open_tableaux_have_a_current_leaf}
 use Rattle.search.specs.Searched.{IsGrownOf, IsFound}
-use Rattle.search.specs.declared.run.Searched.{Searched}
 use Rattle.search.specs.declared.run.Searched.TheVariants.{Closed, Open}
 use Rattle.search.proofs.Complete.{enough_steps_saturate}
 use Rattle.search.proofs.Growing.{grown_root}
 use Rattle.valuation.specs.Valuation.{valuation}
 use Rattle.valuation.proofs.Falsified.{saturated_tableaux_falsify}
-use Rattle.zenon_modulo.specs.declared.outcome.Outcome.{Outcome}
-use Rattle.zenon_modulo.specs.declared.outcome.Outcome.TheVariants.{Unknown}
 use Rattle.zenon_modulo.specs.Fragments.{is_built, is_quantifier_free}
-use Rattle.zenon_modulo.specs.Answer.{setting, root, IsCountermodel, IsUndecided}
-use Rattle.zenon_modulo.specs.Report.{IsClosedFor, IsStoppedFor, IsFoundFor, IsReport}
-use Rattle.zenon_modulo.specs.Text.{unknown_text}
+use Rattle.zenon_modulo.specs.Claims.{setting, root, TakesFirst, IsProof, IsCountermodel, IsUndecided}
+use Rattle.zenon_modulo.specs.Stages.{IsStopped}
 use Rattle.zenon_modulo.proofs.PlainProblems.{plain_refuted}
 
 abbrev setting_of : List Symbol → ℕ → Setting
@@ -59,37 +54,32 @@ module _ (p : Problem) (steps : ℕ) where
 
   -- a search of a typed problem that is built
   module _ (typed : IsTypedProblem p) (built : is_built p ≡ true) where
-    closed_for : (t : State) → IsGrownOf p steps 10000 t → is_finished (tree t) ≡ true → IsClosedFor steps p (tree t)
-    closed_for t g c = record {
-      proof = record {
-        built = built;
-        tableau = grown_tableau t g;
-        closed = c;
-        within = g.within;
-        derivation = closed_tableaux_prove_problems p (setting p) (root p) (tree t) typed refl refl (is_root t g) (grown_tableau t g) c;
-      };
-      picked = g.picked;
+    pub closed_proof : (t : State) → IsFound p steps 10000 (Closed t) → IsProof steps p (tree t)
+    closed_proof t f = record {
+      built = built;
+      tableau = grown_tableau t f.0;
+      closed = f.1;
+      within = f.0.within;
+      derivation = closed_tableaux_prove_problems p (setting p) (root p) (tree t) typed refl refl (is_root t f.0) (grown_tableau t f.0) f.1;
     }
 
-    stopped_for : (t : State) (why : Cause) → IsGrownOf p steps 10000 t → Stopped (state.setting t) (refuted p) steps (tree t) why
-        → IsStoppedFor steps p why t
-    stopped_for t why g s = record {
+    pub closed_first : (t : State) → IsFound p steps 10000 (Closed t) → TakesFirst (tree t)
+    closed_first t f = f.0.picked
+
+    pub stopped_search : (t : State) (why : Why) → IsFound p steps 10000 (Open t why) → IsStopped steps p (cause_of why) t
+    stopped_search t why f = record {
       typed = typed;
       built = built;
-      grown = g;
-      stopped = subst (λ x. Stopped x (refuted p) steps (tree t) why) (same_setting t g) s;
+      grown = f.0;
+      stopped = subst (λ x. Stopped x (refuted p) steps (tree t) (cause_of why)) (same_setting t f.0) f.1;
     }
 
-    pub found_for : (searched : Searched) → IsFound p steps 10000 searched → IsFoundFor steps p searched
-    found_for (Closed t) f = closed_for t f.0 f.1
-    found_for (Open t why) f = stopped_for t (cause_of why) f.0 f.1
-
   -- a stopped search
-  module _ (t : State) (why : Cause) (s : IsStoppedFor steps p why t) where
+  module _ (t : State) (why : Cause) (s : IsStopped steps p why t) where
     pub stopped_open : is_finished (tree t) ≡ false
     stopped_open = stays_open (setting p) (refuted p) steps (tree t) why s.stopped
 
-    undecided : (is_quantifier_free p ≡ true → why ≢ Cause.saturated) → IsUndecided steps p why (tree t)
+    pub undecided : (is_quantifier_free p ≡ true → why ≢ Cause.saturated) → IsUndecided steps p why (tree t)
     undecided u = record {
       built = s.built;
       tableau = grown_tableau t s.grown;
@@ -101,21 +91,7 @@ module _ (p : Problem) (steps : ℕ) where
           (grown_tableau t s.grown) w n s.stopped);
     }
 
-  unknown_report : (t : State) (why : Why) (text : List ℕ) → IsStoppedFor steps p (cause_of why) t
-      → (is_quantifier_free p ≡ true → cause_of why ≢ Cause.saturated) → text ≡ unknown_text (cause_of why) (tree t)
-      → IsReport steps p (Unknown why t) text
-  unknown_report t why text s u e = record { reports = undecided t (cause_of why) s u; picked = s.grown.picked; written = e }
-
-  pub unknown_reported : (t : State) (why : Why) (o : Outcome) (text shown : Vec ℕ Global) → IsStoppedFor steps p (cause_of why) t
-      → (is_quantifier_free p ≡ true → cause_of why ≢ Cause.saturated) → shown.items ≡ unknown_text (cause_of why) (tree t)
-      → o ≡ Unknown why t → text ≡ shown → IsReport steps p o text.items
-  unknown_reported t why o text shown s u e same is =
-      subst (λ x. IsReport steps p x text.items) (sym same) (unknown_report t why text.items s u (ap items is ∙ e))
-    where
-      items : Vec ℕ Global → List ℕ
-      items v = v.items
-
-  pub countermodel : (t : State) (v : List Valued) → IsStoppedFor steps p Cause.saturated t → is_quantifier_free p ≡ true
+  pub countermodel : (t : State) (v : List Valued) → IsStopped steps p Cause.saturated t → is_quantifier_free p ≡ true
       → AtLeaf t (λ leaf. v ≡ valuation leaf.branch p) → IsCountermodel steps p v (tree t)
   countermodel t v s q a =
       let f = saturated_tableaux_falsify p (setting p) (root p) steps (tree t) s.typed (plain_refuted p q) refl (is_root t s.grown)

@@ -1,6 +1,7 @@
 mod Answered
-mod CallsAnswered
+mod Calls
 mod ClapOptions
+mod Clauses
 mod Commands
 mod Dashes
 mod FileText
@@ -9,5 +10,5 @@ mod OneReading
 mod Picks
 mod PlainProblems
 mod Printed
+mod Reported
 mod SymbolNames
-mod TextAnswered

@@ -60,7 +60,7 @@ plain_is (Form.equal t a b) e = cc
 plain_is (Form.negation f) e = plain_is f e
 plain_is (Form.binary c f g) e = let both = and_parts (is_plain f) (is_plain g) e in (plain_is f both.0, plain_is g both.1)
 plain_is (Form.quantified q t f) e = cc
-plain_is (Form.for_all_types f) e = cc
+plain_is (Form.quantified_types q f) e = cc
 
 premises_plain : (ps : List tree.Premise) (f : Form) → are_plain ps ≡ true → is_plain f ≡ true
     → All IsQuantifierFree (map (λ premise. premise.form) ps ++ Form.negation f ∷ [])
@@ -85,7 +85,7 @@ plain_equality_free (Form.negation f) e = plain_equality_free f e
 plain_equality_free (Form.binary c f g) e =
     let both = and_parts (is_plain f) (is_plain g) e in rw (plain_equality_free f both.0, plain_equality_free g both.1) refl
 plain_equality_free (Form.quantified q t f) e = cc
-plain_equality_free (Form.for_all_types f) e = cc
+plain_equality_free (Form.quantified_types q f) e = cc
 
 no_equality : (ps : List tree.Premise) → are_plain ps ≡ true → any_equality ps ≡ false
 no_equality [] e = refl

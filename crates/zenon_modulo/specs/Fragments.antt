@@ -21,7 +21,7 @@ is_plain (Form.equal t a b) = false
 is_plain (Form.negation f) = is_plain f
 is_plain (Form.binary c f g) = is_plain f && is_plain g
 is_plain (Form.quantified q t f) = false
-is_plain (Form.for_all_types f) = false
+is_plain (Form.quantified_types q f) = false
 
 -- premises of such formulas
 abbrev pub are_plain : List Premise → Bool

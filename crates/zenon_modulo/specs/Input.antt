@@ -1,16 +1,15 @@
 -- What the input of a call is: the text of its operand, the statements gathered from it, and the problem that they make.
-use Rattle.std.specs.Prelude.{ℕ, ◌≡◌, ◌<◌, ◌≤◌, ◌+◌, false, codes, List, map, length, drop, Option, Some, None, IfSome}
+use Rattle.std.specs.Prelude.{ℕ, ◌≡◌, ◌<◌, ◌≤◌, ◌+◌, false, codes, List, map, length, drop, slice_get, Option, Some, None, IfSome, Err}
 use Rattle.zm_base.specs.Outside.{AtEnd}
 use Rattle.zm_base.specs.Library.{NamedFile, file_of}
 use Rattle.zm_logic.specs.Tree.{Problem}
 use Rattle.zm_logic.specs.Problem.{IsTypedProblem}
 use Rattle.tptp_include.specs.Gathering.{Placed, Refusal, Outcome, GathersAll}
-use Rattle.tptp_include.specs.Outcomes.{refusal_of}
 use Rattle.tff_typing.specs.Rules.{MakeProblem}
-use Rattle.tff_typing.specs.View.{Refuses}
-use Rattle.zenon_modulo.specs.declared.outcome.InputRefusal.{InputRefusal}
-use Rattle.zenon_modulo.specs.declared.outcome.InputRefusal.TheVariants as refusals
+use Rattle.tff_typing.specs.Statements as typing
+use Rattle.tff_typing.specs.Statements.{problem_in}
 use Rattle.zenon_modulo.specs.Words.{Operand}
+use Rattle.zenon_modulo.specs.Answer.{Untyped, Explanation}
 use Rattle.zenon_modulo.specs.Fragments.{is_built}
 
 abbrev pub Name : Type 0
@@ -58,10 +57,13 @@ pub record IsProblem (operand : Operand) (left : Option (List ℕ)) (files : Opt
   pub spelled : IfTold operand left files (λ fs text. Spells operand fs text p)
   pub typed : IsTypedProblem p
 
--- why no statements are gathered: there is no file of the operand's name, or gathering from its text refuses
-pub data Ungathered (operand : Operand) (files : List NamedFile) (text : Option (List ℕ)) : Refusal → Type 0 where
-  absent : {name : Name} → operand ≡ Operand.file name → text ≡ None → Ungathered operand files text (Refusal.missing name)
-  refused : {bytes : List ℕ} {r : Refusal} → IsText text bytes → GathersAll files (name_of operand) bytes (Outcome.refused r) → Ungathered operand files text r
+-- The statement has no typing, and is the first such: this is its place, and its first fault.
+pub record IsFirstUntyped (list : List Placed) (u : Untyped) : Type 0 where
+  pub refusal : typing.Refusal
+  pub found : problem_in (map (λ s. s.statement) list) ≡ Err refusal
+  pub placed : Placed
+  pub stands : slice_get list refusal.statement ≡ Some placed
+  pub told : u ≡ record { file = placed.file; at = placed.at; fault = refusal.fault; symbols = refusal.symbols }
 
 -- the operand's text has too many bytes
 pub record HasTooMany (text : Option (List ℕ)) : Type 0 where
@@ -69,14 +71,19 @@ pub record HasTooMany (text : Option (List ℕ)) : Type 0 where
   pub is_there : text ≡ Some bytes
   pub over : input_limit < length bytes
 
--- What is wrong with the input: nothing is gathered; the statements that are gathered make no problem, and this is the
--- first fault; it has too many bytes; or its problem is one that isn't built.
-abbrev pub Explains : Operand → List NamedFile → Option (List ℕ) → InputRefusal → Type 0
-Explains operand files text (refusals.Gather g) = (r : Refusal) × (refusal_of g ≡ Some r) × Ungathered operand files text r
-Explains operand files text (refusals.Typing t) =
-    (bytes : List ℕ) × (list : List Placed) × IsText text bytes × IsGatheredFrom files (name_of operand) bytes list × Refuses list t
-Explains operand files text refusals.TooLarge = HasTooMany text
-Explains operand files text refusals.NotBuilt = (p : Problem) × Spells operand files text p × (is_built p ≡ false)
+-- What is wrong with the input: there is no file of the operand's name; the text has too many bytes; gathering from it
+-- refuses; the statements that are gathered make no problem, and this is the first of them without a typing; or its problem
+-- is one that isn't built.
+pub data Explains (operand : Operand) (files : List NamedFile) (text : Option (List ℕ)) : Explanation → Type 0 where
+  absent : {name : Name} → operand ≡ Operand.file name → text ≡ None
+      → Explains operand files text (Explanation.ungathered (Refusal.missing name))
+  too_large : HasTooMany text → Explains operand files text Explanation.too_large
+  ungathered : {bytes : List ℕ} {r : Refusal} → IsText text bytes → GathersAll files (name_of operand) bytes (Outcome.refused r)
+      → Explains operand files text (Explanation.ungathered r)
+  untyped : {bytes : List ℕ} {list : List Placed} {u : Untyped} → IsText text bytes
+      → IsGatheredFrom files (name_of operand) bytes list → IsFirstUntyped list u
+      → Explains operand files text (Explanation.untyped u)
+  not_built : {p : Problem} → Spells operand files text p → is_built p ≡ false → Explains operand files text Explanation.not_built
 
 -- the source was read to its end, if it is the operand, and is else left alone
 abbrev pub IsTaken : Operand → Option (List ℕ) → Option (List ℕ) → Type 0

@@ -1,14 +1,26 @@
 -- Statements about the definitions, for contracts to name.
-use Rattle.std.specs.Prelude.{ℕ, ◌≡◌, List, Option}
+use Rattle.std.specs.Prelude.{ℕ, ◌≡◌, false, List, Option}
 use Rattle.zm_base.specs.Library.{NamedFile}
 use Rattle.zm_logic.specs.Tree.{Problem}
 use Rattle.zenon_modulo.specs.Words.{Word, Operand, Command, Misuse, IsCommand, IsMisuse}
-use Rattle.zenon_modulo.specs.Input.{Spells}
+use Rattle.zenon_modulo.specs.Fragments.{is_built}
+use Rattle.zenon_modulo.specs.Input.{Spells, Explains}
+use Rattle.zenon_modulo.specs.Answer.{Explanation}
 
 -- the text of an operand spells at most one problem
 abbrev pub SpelledProblemsAreEqual : Type 0
 SpelledProblemsAreEqual = (operand : Operand) (files : List NamedFile) (text : Option (List ℕ)) (p q : Problem)
     → Spells operand files text p → Spells operand files text q → p ≡ q
+
+-- An operand whose text spells a problem is refused for one cause alone: that the problem isn't built.
+abbrev pub SpelledProblemsAreAccepted : Type 0
+SpelledProblemsAreAccepted = (operand : Operand) (files : List NamedFile) (text : Option (List ℕ)) (p : Problem) (e : Explanation)
+    → Spells operand files text p → Explains operand files text e → (e ≡ Explanation.not_built) × (is_built p ≡ false)
+
+-- at most one thing is wrong with an input
+abbrev pub ExplanationsAreEqual : Type 0
+ExplanationsAreEqual = (operand : Operand) (files : List NamedFile) (text : Option (List ℕ)) (d e : Explanation)
+    → Explains operand files text d → Explains operand files text e → d ≡ e
 
 -- words are at most one command
 abbrev pub CommandsAreEqual : Type 0

@@ -1,12 +1,15 @@
-pub mod Answer
-pub mod Fragments
-pub mod Input
-pub mod Laws
-pub mod Message
-pub mod Names
-pub mod Outcome
-pub mod Report
-pub mod Text
+-- What contracts cite, in the order in which it is to be read.
 pub mod Words
-pub mod WordsRead
+pub mod Fragments
+pub mod Answer
+pub mod Input
+pub mod Outcome
+pub mod Claims
+pub mod Names
+pub mod Message
+pub mod Text
 pub mod Writing
+pub mod Laws
+-- What serves the parts of a call and their proofs alone.
+pub mod WordsRead
+pub mod Stages

@@ -2,22 +2,14 @@
 use Rattle.std.specs.Prelude.{ℕ, codes, decimal, List, [], ◌++◌, map}
 use Rattle.tptp_reader.specs.declared.refusal.UnsupportedForm.{UnsupportedForm}
 use Rattle.tptp_reader.specs.declared.refusal.UnsupportedForm.TheVariants as forms
-use Rattle.tptp_include.specs.declared.refusal.Place.{Place}
-use Rattle.tptp_include.specs.declared.refusal.GatherRefusal.{GatherRefusal}
-use Rattle.tptp_include.specs.declared.refusal.GatherRefusal.TheVariants as gather
-use Rattle.tff_typing.specs.declared.fault.Found.{Found}
-use Rattle.tff_typing.specs.declared.fault.Found.TheVariants as founds
-use Rattle.tff_typing.specs.declared.fault.Fault.{Fault}
-use Rattle.tff_typing.specs.declared.fault.Fault.TheVariants as faults
-use Rattle.tff_typing.specs.declared.typed.TypeRefusal.{TypeRefusal}
-use Rattle.zm_logic.specs.View.{type_tree}
-use Rattle.zenon_modulo.specs.declared.outcome.InputRefusal.{InputRefusal}
-use Rattle.zenon_modulo.specs.declared.outcome.InputRefusal.TheVariants as refusals
+use Rattle.tptp_include.specs.Gathering.{Refusal}
+use Rattle.tff_typing.specs.Fault.{Found, Fault}
+use Rattle.zenon_modulo.specs.Answer.{Untyped, Explanation}
 use Rattle.zenon_modulo.specs.Names.{Name, type_text}
 
 -- a place of a file
-abbrev pub place_text : Place → List ℕ
-place_text place = codes " at " ++ place.file ++ codes ":" ++ decimal place.at
+abbrev pub place_text : Name → ℕ → List ℕ
+place_text file at = codes " at " ++ file ++ codes ":" ++ decimal at
 
 -- a form that isn't read
 abbrev pub form_text : UnsupportedForm → List ℕ
@@ -28,49 +20,46 @@ form_text forms.DistinctObject = codes "distinct object"
 form_text forms.DefinedWord = codes "defined word"
 form_text forms.Operator = codes "operator"
 
--- why nothing was gathered; a fault of the library and want of memory are told otherwise
-abbrev pub gather_text : GatherRefusal → List ℕ
-gather_text (gather.Syntax place) = codes "syntax" ++ place_text place
-gather_text (gather.TooDeep place) = codes "too deep" ++ place_text place
-gather_text (gather.Unsupported form place) = codes "unsupported " ++ form_text form ++ place_text place
-gather_text (gather.IncludeDepth name) = codes "include depth " ++ name
-gather_text (gather.Cycle name) = codes "include cycle " ++ name
-gather_text (gather.Missing name) = codes "missing file " ++ name
-gather_text gather.LibraryFault = []
-gather_text gather.TooLarge = codes "too large"
-gather_text (gather.NoSuchFormula name) = codes "no formula " ++ name
-gather_text gather.Memory = []
+-- why nothing is gathered
+abbrev pub gather_text : Refusal → List ℕ
+gather_text (Refusal.syntax file at) = codes "syntax" ++ place_text file at
+gather_text (Refusal.too_deep file at) = codes "too deep" ++ place_text file at
+gather_text (Refusal.unsupported form file at) = codes "unsupported " ++ form_text form ++ place_text file at
+gather_text (Refusal.include_depth file) = codes "include depth " ++ file
+gather_text (Refusal.cycle file) = codes "include cycle " ++ file
+gather_text (Refusal.missing file) = codes "missing file " ++ file
+gather_text Refusal.too_large = codes "too large"
+gather_text (Refusal.no_such_formula name) = codes "no formula " ++ name
 
 -- what is wanted, or was found
 abbrev pub found_text : List Name → Found → List ℕ
-found_text names founds.Truth = codes "$o"
-found_text names (founds.OfType t) = type_text names (type_tree t)
+found_text names Found.truth = codes "$o"
+found_text names (Found.of_type t) = type_text names t
 
 -- the two types of a mismatch
 abbrev pub mismatch_text : List Name → Fault → List ℕ
-mismatch_text names (faults.Mismatch wanted got) = codes ", wanted " ++ found_text names wanted ++ codes ", got " ++ found_text names got
+mismatch_text names (Fault.mismatch wanted got) = codes ", wanted " ++ found_text names wanted ++ codes ", got " ++ found_text names got
 mismatch_text names fault = []
 
 abbrev pub fault_text : Fault → List ℕ
-fault_text faults.SecondConjecture = codes "second conjecture"
-fault_text faults.Redeclared = codes "redeclared"
-fault_text faults.TooManySymbols = codes "too many symbols"
-fault_text faults.Unbound = codes "unbound"
-fault_text faults.Arity = codes "arity"
-fault_text faults.NotAType = codes "not a type"
-fault_text faults.NotATerm = codes "not a term"
-fault_text faults.TypeQuantifier = codes "type quantifier"
-fault_text (faults.Mismatch wanted got) = codes "mismatch"
+fault_text Fault.second_conjecture = codes "second conjecture"
+fault_text Fault.redeclared = codes "redeclared"
+fault_text Fault.too_many_symbols = codes "too many symbols"
+fault_text Fault.unbound = codes "unbound"
+fault_text Fault.arity = codes "arity"
+fault_text Fault.not_a_type = codes "not a type"
+fault_text Fault.not_a_term = codes "not a term"
+fault_text (Fault.mismatch wanted got) = codes "mismatch"
 
-abbrev pub typing_text : TypeRefusal → List ℕ
-typing_text t = fault_text t.fault ++ place_text t.place ++ mismatch_text (map (λ s. s.name) t.symbols) t.fault
+abbrev pub untyped_text : Untyped → List ℕ
+untyped_text u = fault_text u.fault ++ place_text u.file u.at ++ mismatch_text (map (λ s. s.name) u.symbols) u.fault
 
-abbrev pub cause_text : InputRefusal → List ℕ
-cause_text (refusals.Gather refusal) = gather_text refusal
-cause_text (refusals.Typing refusal) = typing_text refusal
-cause_text refusals.TooLarge = codes "too large"
-cause_text refusals.NotBuilt = codes "not built"
+abbrev pub explanation_text : Explanation → List ℕ
+explanation_text (Explanation.ungathered r) = gather_text r
+explanation_text (Explanation.untyped u) = untyped_text u
+explanation_text Explanation.too_large = codes "too large"
+explanation_text Explanation.not_built = codes "not built"
 
 -- a line
-abbrev pub refusal_text : InputRefusal → List ℕ
-refusal_text refusal = codes "refused: " ++ cause_text refusal ++ codes "\n"
+abbrev pub refusal_text : Explanation → List ℕ
+refusal_text e = codes "refused: " ++ explanation_text e ++ codes "\n"

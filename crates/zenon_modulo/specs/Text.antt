@@ -1,14 +1,10 @@
 -- What is written for an answer, as a list of bytes.
 use Rattle.std.specs.Prelude.{ℕ, Bool, codes, decimal, cond, List, [], ◌∷◌, ◌++◌, map, flat_map}
-use Rattle.zm_logic.specs.Tree.{Form, Problem}
+use Rattle.zm_logic.specs.Tree.{Problem}
 use Rattle.zm_logic.specs.Truth.{Valued}
 use Rattle.branch.specs.Tableau.{Node, picks}
 use Rattle.branch.specs.Stopping.{Cause}
-use Rattle.branch.specs.State.{tree}
-use Rattle.branch.specs.Causes.{cause_of}
-use Rattle.valuation.specs.View.{valued_tree}
-use Rattle.zenon_modulo.specs.declared.outcome.Outcome.{Outcome}
-use Rattle.zenon_modulo.specs.declared.outcome.Outcome.TheVariants as outcomes
+use Rattle.zenon_modulo.specs.Answer.{Answer}
 use Rattle.zenon_modulo.specs.Names.{Name, atom_text}
 use Rattle.zenon_modulo.specs.Message.{refusal_text}
 
@@ -51,29 +47,29 @@ abbrev pub unknown_text : Cause → Node → List ℕ
 unknown_text why node = codes "unknown: " ++ cause_text why ++ codes "\npicks:" ++ picks_text (picks node) ++ codes "\n"
 
 -- what is written to the sink for results
-abbrev pub out_text : Problem → Outcome → List ℕ
-out_text p (outcomes.Proved tableau) = proved_text (tree tableau)
-out_text p (outcomes.Falsified valuation tableau) = falsified_text p (map valued_tree valuation)
-out_text p (outcomes.Unknown why tableau) = unknown_text (cause_of why) (tree tableau)
-out_text p (outcomes.Refused refusal) = []
-out_text p (outcomes.Usage refusal) = []
-out_text p outcomes.ReadFault = []
-out_text p outcomes.LibraryFault = []
-out_text p outcomes.WriteFault = []
-out_text p outcomes.Memory = []
+abbrev pub out_text : Problem → Answer → List ℕ
+out_text p (Answer.proved tree) = proved_text tree
+out_text p (Answer.falsified v tree) = falsified_text p v
+out_text p (Answer.unknown why tree) = unknown_text why tree
+out_text p (Answer.refused e) = []
+out_text p (Answer.misused m) = []
+out_text p Answer.read_fault = []
+out_text p Answer.library_fault = []
+out_text p Answer.write_fault = []
+out_text p Answer.memory = []
 
 -- how the program is called
 abbrev pub usage_text : List ℕ
 usage_text = codes "usage: zenon_modulo prove FILE [options] | check FILE [options] | gen K [options]\n"
 
 -- what is written to the sink for messages
-abbrev pub diag_text : Outcome → List ℕ
-diag_text (outcomes.Proved tableau) = []
-diag_text (outcomes.Falsified valuation tableau) = []
-diag_text (outcomes.Unknown why tableau) = []
-diag_text (outcomes.Refused refusal) = refusal_text refusal
-diag_text (outcomes.Usage refusal) = usage_text
-diag_text outcomes.ReadFault = codes "fault: read\n"
-diag_text outcomes.LibraryFault = codes "fault: library\n"
-diag_text outcomes.WriteFault = []
-diag_text outcomes.Memory = codes "out of memory\n"
+abbrev pub diag_text : Answer → List ℕ
+diag_text (Answer.proved tree) = []
+diag_text (Answer.falsified v tree) = []
+diag_text (Answer.unknown why tree) = []
+diag_text (Answer.refused e) = refusal_text e
+diag_text (Answer.misused m) = usage_text
+diag_text Answer.read_fault = codes "fault: read\n"
+diag_text Answer.library_fault = codes "fault: library\n"
+diag_text Answer.write_fault = []
+diag_text Answer.memory = codes "out of memory\n"

@@ -15,10 +15,9 @@ pub data Operand : Type 0 where
   source : Operand
   file : (name : Word) → Operand
 
--- what is asked for: to prove the problem of the operand in at most so many Steps
-pub record Command : Type 0 where
-  pub operand : Operand
-  pub steps : ℕ
+-- what is asked for, by mode: to prove the problem of the operand in at most so many Steps
+pub data Command : Type 0 where
+  prove : (operand : Operand) (steps : ℕ) → Command
 
 -- - stands for the source; any other word that doesn't begin with a hyphen (45) is the name of a file
 pub data IsOperand : Word → Operand → Type 0 where
@@ -61,8 +60,8 @@ pub record AreOptions (options : List Word) (steps : ℕ) : Type 0 where
 
 -- the words are a command:  prove OPERAND OPTIONS
 pub data IsCommand : List Word → Command → Type 0 where
-  prove : {word : Word} {options : List Word} {command : Command} → IsOperand word command.operand
-      → AreOptions options command.steps → IsCommand (codes "prove" ∷ word ∷ options) command
+  prove : {word : Word} {options : List Word} {operand : Operand} {steps : ℕ} → IsOperand word operand
+      → AreOptions options steps → IsCommand (codes "prove" ∷ word ∷ options) (Command.prove operand steps)
 
 -- what is wrong with the words
 pub data Misuse : Type 0 where

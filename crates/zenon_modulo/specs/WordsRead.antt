@@ -1,10 +1,10 @@
 -- What reading the words gives.
-use Rattle.std.specs.Prelude.{ℕ, ◌≡◌, ◌≢◌, [], List, map, Option, Some, None, Result, Ok, Err}
-use Rattle.std.specs.Option.{option_map}
+use Rattle.std.specs.Prelude.{ℕ, ◌≢◌, [], List}
 use Rattle.clap.specs.Words.{fault_of}
 use Rattle.zenon_modulo.specs.declared.words.Operand.{Operand}
 use Rattle.zenon_modulo.specs.declared.words.Operand.TheVariants as operands
 use Rattle.zenon_modulo.specs.declared.words.Command.{Command}
+use Rattle.zenon_modulo.specs.declared.words.Command.TheVariants as commands
 use Rattle.zenon_modulo.specs.declared.words.UsageRefusal.{UsageRefusal}
 use Rattle.zenon_modulo.specs.declared.words.UsageRefusal.TheVariants as refusals
 use Rattle.zenon_modulo.specs.declared.words.WordsStop.{WordsStop}
@@ -19,7 +19,7 @@ operand_tree operands.Source = words.Operand.source
 operand_tree (operands.File name) = words.Operand.file name
 
 abbrev pub command_tree : Command → words.Command
-command_tree c = record { operand = operand_tree c.operand; steps = c.steps }
+command_tree (commands.Prove operand steps) = words.Command.prove (operand_tree operand) steps
 
 abbrev pub misuse_of : UsageRefusal → Misuse
 misuse_of refusals.NoMode = Misuse.no_mode

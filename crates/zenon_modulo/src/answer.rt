@@ -1,23 +1,21 @@
-ghost use Rattle.std.specs.Prelude.{◌≡◌, ◌≤◌, ℕ, List, [], true, Option, length, map, string_bytes, IfOk, IfSome, Some, Err, ◌≢◌};
-ghost use Rattle.zm_base.specs.Outside.{Rose};
-ghost use Rattle.zm_base.specs.Library.{NamedFile, bytes_of};
+ghost use Rattle.std.specs.Prelude.{◌≡◌, ◌≤◌, ◌+◌, ℕ, List, [], true, map, IfOk, IfSome, Err, ◌≢◌};
+ghost use Rattle.zm_base.specs.Outside.{Rose, ReadsAtMost};
+ghost use Rattle.zm_base.specs.Library.{bytes_of};
+ghost use Rattle.std.specs.Prelude.{length, string_bytes};
 ghost use Rattle.zm_logic.specs.View.{problem_tree};
 ghost use Rattle.zm_logic.specs.Problem.{IsTypedProblem};
 ghost use Rattle.tptp_include.specs.Outcomes.{placed_of};
 ghost use Rattle.zenon_modulo.specs.Fragments.{is_built as spec_is_built};
-ghost use Rattle.zenon_modulo.specs.Words.{Word, Operand as OperandTree, IsCommand};
-ghost use Rattle.zenon_modulo.specs.WordsRead.{command_tree};
+ghost use Rattle.zenon_modulo.specs.Words.{Operand as OperandTree, Command as CommandTree, IsCommand};
+ghost use Rattle.zenon_modulo.specs.WordsRead.{operand_tree, command_tree};
 ghost use Rattle.zenon_modulo.specs.Input.{Name, IsGatheredFrom, Makes, input_limit};
-ghost use Rattle.zenon_modulo.specs.Outcome.{IfRefused};
-ghost use Rattle.zenon_modulo.specs.Answer.{IsAnswer, call_of};
-ghost use Rattle.zenon_modulo.specs.Writing.{IsTextOf};
-ghost use Rattle.zenon_modulo.specs.Report.{IsReport, IsRefusedOr, AnswersText, IsFile, IsFileRead, IsUngathered, IsMissing};
-ghost use Rattle.zenon_modulo.specs.Message.{refusal_text as spec_refusal_text};
+ghost use Rattle.zenon_modulo.specs.Claims.{Words, Call, call_of};
+ghost use Rattle.zenon_modulo.specs.Stages.{Gives, GivesFor, HasTableau, HasRead, IsFew, IsPlain, IsMessage, IsRefusedOr, IsFile, IsFileRead, IsUngathered, IsMissing};
 
 use crate::fragments::is_built;
 use crate::message::refusal_text;
 use crate::outcome::{InputRefusal, Outcome};
-use crate::report::{Answer, report};
+use crate::report::{Reply, report};
 use crate::words::{Command, Operand, WordsStop, read_words};
 use rule_select::keep_all;
 use search::{Budget, search};
@@ -32,13 +30,13 @@ use zm_logic::TypedProblem;
 pub const INPUT_LIMIT: usize = 16_777_216;
 
 // An answer that has no text of its own.
-fn plain(alloc: Global, outcome: Outcome) -> Answer
-    requires { IfRefused outcome (λ refusal. ⊥) }
+fn plain(alloc: Global, outcome: Outcome) -> Reply
+    requires { IsPlain outcome }
     ensures outcome { result.outcome ≡ outcome }
     ensures text { result.text.items ≡ [] }
-    ensures message { IfRefused result.outcome (λ refusal. result.message.items ≡ spec_refusal_text refusal) }
+    ensures message { IsMessage result.outcome result.message.items }
 {
-    Answer {
+    Reply {
         outcome,
         text: Vec::new(alloc),
         message: Vec::new(alloc),
@@ -46,13 +44,13 @@ fn plain(alloc: Global, outcome: Outcome) -> Answer
 }
 
 // A refused input with its message, or want of memory for it.
-fn refused(alloc: Global, refusal: InputRefusal) -> Answer
+fn refused(alloc: Global, refusal: InputRefusal) -> Reply
     ensures outcome { IsRefusedOr refusal result.outcome }
     ensures text { result.text.items ≡ [] }
-    ensures message { IfRefused result.outcome (λ refusal. result.message.items ≡ spec_refusal_text refusal) }
+    ensures message { IsMessage result.outcome result.message.items }
 {
     match refusal_text(alloc, &refusal) {
-        Ok(message) => Answer {
+        Ok(message) => Reply {
             outcome: Outcome::Refused(refusal),
             text: Vec::new(alloc),
             message,
@@ -65,11 +63,12 @@ fn refused(alloc: Global, refusal: InputRefusal) -> Answer
 }
 
 // Searches, and reports what was found.
-fn solve(alloc: Global, problem: &TypedProblem, steps: u32) -> Result<Answer, AllocError>
+fn solve(alloc: Global, problem: &TypedProblem, steps: u32) -> Result<Reply, AllocError>
     requires typed { IsTypedProblem (problem_tree problem.now) }
     requires built { spec_is_built (problem_tree problem.now) ≡ true }
     requires few { steps ≤ 1000000 }
-    ensures { IfOk result (λ r. IsReport steps (problem_tree problem.now) r.outcome r.text.items) }
+    ensures answer { IfOk result (λ r. GivesFor (problem_tree problem.now) steps r.outcome r.text.items) }
+    ensures searched { IfOk result (λ r. HasTableau r.outcome) }
 {
     let selection = keep_all(alloc, problem)?;
     let budget = Budget {
@@ -81,12 +80,12 @@ fn solve(alloc: Global, problem: &TypedProblem, steps: u32) -> Result<Answer, Al
 }
 
 // What is answered to a problem that is built.
-fn answer_built(alloc: Global, problem: &TypedProblem, steps: u32) -> Answer
+fn answer_built(alloc: Global, problem: &TypedProblem, steps: u32) -> Reply
     requires typed { IsTypedProblem (problem_tree problem.now) }
     requires built { spec_is_built (problem_tree problem.now) ≡ true }
     requires few { steps ≤ 1000000 }
-    ensures answer { (files : Option (List NamedFile)) (name : Name) (bytes : List ℕ) → IfSome files (λ fs. Makes fs name bytes (problem_tree problem.now)) → AnswersText files name bytes steps result.outcome result.text.items }
-    ensures message { IfRefused result.outcome (λ refusal. result.message.items ≡ spec_refusal_text refusal) }
+    ensures answer { GivesFor (problem_tree problem.now) steps result.outcome result.text.items }
+    ensures message { IsMessage result.outcome result.message.items }
     ensures library { result.outcome ≢ Outcome.LibraryFault }
 {
     match solve(alloc, problem, steps) {
@@ -96,10 +95,11 @@ fn answer_built(alloc: Global, problem: &TypedProblem, steps: u32) -> Answer
 }
 
 // What is answered to a typed problem.
-fn answer_problem(alloc: Global, problem: &TypedProblem, steps: u32) -> Answer
+fn answer_problem(alloc: Global, problem: &TypedProblem, steps: u32) -> Reply
     requires { steps ≤ 1000000 }
-    ensures answer { (files : Option (List NamedFile)) (name : Name) (bytes : List ℕ) → IfSome files (λ fs. Makes fs name bytes (problem_tree problem.now)) → AnswersText files name bytes steps result.outcome result.text.items }
-    ensures message { IfRefused result.outcome (λ refusal. result.message.items ≡ spec_refusal_text refusal) }
+    ensures answer { (c : Call) (name : Name) (bytes : List ℕ) → HasRead c name bytes steps
+        → IfSome c.files (λ fs. Makes fs name bytes (problem_tree problem.now)) → Gives c result.outcome result.text.items }
+    ensures message { IsMessage result.outcome result.message.items }
     ensures library { result.outcome ≢ Outcome.LibraryFault }
 {
     if is_built(problem.problem()) {
@@ -109,10 +109,12 @@ fn answer_problem(alloc: Global, problem: &TypedProblem, steps: u32) -> Answer
 }
 
 // What is answered to gathered statements.
-fn answer_statements(alloc: Global, gathered: &Gathered, steps: u32) -> Answer
+fn answer_statements(alloc: Global, gathered: &Gathered, steps: u32) -> Reply
     requires { steps ≤ 1000000 }
-    ensures answer { (files : Option (List NamedFile)) (name : Name) (bytes : List ℕ) → IfSome files (λ fs. IsGatheredFrom fs name bytes (map placed_of gathered.now)) → AnswersText files name bytes steps result.outcome result.text.items }
-    ensures message { IfRefused result.outcome (λ refusal. result.message.items ≡ spec_refusal_text refusal) }
+    ensures answer { (c : Call) (name : Name) (bytes : List ℕ) → HasRead c name bytes steps
+        → IfSome c.files (λ fs. IsGatheredFrom fs name bytes (map placed_of gathered.now))
+        → Gives c result.outcome result.text.items }
+    ensures message { IsMessage result.outcome result.message.items }
     ensures library { result.outcome ≢ Outcome.LibraryFault }
 {
     match type_problem(alloc, gathered) {
@@ -123,10 +125,10 @@ fn answer_statements(alloc: Global, gathered: &Gathered, steps: u32) -> Answer
 }
 
 // What is answered where nothing is gathered.
-fn ungathered(alloc: Global, refusal: GatherRefusal) -> Answer
+fn ungathered(alloc: Global, refusal: GatherRefusal) -> Reply
     ensures answer { IsUngathered refusal result.outcome }
     ensures text { result.text.items ≡ [] }
-    ensures message { IfRefused result.outcome (λ refusal. result.message.items ≡ spec_refusal_text refusal) }
+    ensures message { IsMessage result.outcome result.message.items }
 {
     match refusal {
         GatherRefusal::LibraryFault => plain(alloc, Outcome::LibraryFault),
@@ -142,11 +144,13 @@ fn answer_text<L: Library>(
     name: &str,
     bytes: &[u8],
     steps: u32,
-) -> Answer
+) -> Reply
     requires fits { length bytes.now ≤ input_limit }
     requires few { steps ≤ 1000000 }
-    ensures answer { AnswersText (L.files library.old) name.now bytes.now steps result.outcome result.text.items }
-    ensures message { IfRefused result.outcome (λ refusal. result.message.items ≡ spec_refusal_text refusal) }
+    ensures answer { (c : Call) → HasRead c name.now bytes.now steps → c.files ≡ L.files library.old
+        → (result.outcome ≡ Outcome.LibraryFault → Rose c.library_faults c.library_faults_now)
+        → Gives c result.outcome result.text.items }
+    ensures message { IsMessage result.outcome result.message.items }
     ensures files { L.files library.new ≡ L.files library.old }
     ensures later { L.faults library.old ≤ L.faults library.new }
     ensures library { result.outcome ≡ Outcome.LibraryFault → Rose (L.faults library.old) (L.faults library.new) }
@@ -163,14 +167,16 @@ fn answer_source<S: Source, L: Library>(
     steps: u32,
     input: &mut S,
     library: &mut L,
-) -> Answer
+) -> Reply
     requires { steps ≤ 1000000 }
-    ensures answered { (words : List Word) → IsCommand words (record { operand = OperandTree.source; steps = steps })
-        → IsAnswer (call_of words (S.left input.old) (S.left input.new) (S.faults input.old) (S.faults input.new) (L.files library.old) (L.faults library.old) (L.faults library.new)) result.outcome }
-    ensures text { (words : List Word) → IsCommand words (record { operand = OperandTree.source; steps = steps })
-        → IsTextOf (call_of words (S.left input.old) (S.left input.new) (S.faults input.old) (S.faults input.new) (L.files library.old) (L.faults library.old) (L.faults library.new)) result.outcome result.text.items }
-    ensures message { IfRefused result.outcome (λ refusal. result.message.items ≡ spec_refusal_text refusal) }
+    ensures answered { (words : Words) → IsCommand (map string_bytes words) (CommandTree.prove OperandTree.source steps)
+        → Gives
+        (call_of S.Source L.Library words input.old input.new library.old library.new) result.outcome result.text.items }
+    ensures message { IsMessage result.outcome result.message.items }
+    ensures reads { ReadsAtMost (input_limit + 1) (S.left input.old) (S.left input.new) }
     ensures files { L.files library.new ≡ L.files library.old }
+    ensures source_later { S.faults input.old ≤ S.faults input.new }
+    ensures library_later { L.faults library.old ≤ L.faults library.new }
 {
     match read_to_limit(alloc, input, INPUT_LIMIT) {
         Ok(bytes) => answer_text(alloc, library, "-", &bytes, steps),
@@ -223,10 +229,10 @@ fn read_file<L: Library>(alloc: Global, library: &mut L, name: &str) -> Result<V
 }
 
 // What is answered where there is no file of the operand's name.
-fn missing(alloc: Global, name: &str) -> Answer
+fn missing(alloc: Global, name: &str) -> Reply
     ensures outcome { IsMissing name.now result.outcome }
     ensures text { result.text.items ≡ [] }
-    ensures message { IfRefused result.outcome (λ refusal. result.message.items ≡ spec_refusal_text refusal) }
+    ensures message { IsMessage result.outcome result.message.items }
 {
     match Text::of(alloc, name) {
         Ok(name) => refused(alloc, InputRefusal::Gather(GatherRefusal::Missing { name })),
@@ -235,14 +241,14 @@ fn missing(alloc: Global, name: &str) -> Answer
 }
 
 // What is answered to a file.
-fn answer_file<L: Library>(alloc: Global, steps: u32, library: &mut L, name: &str) -> Answer
+fn answer_file<L: Library>(alloc: Global, steps: u32, library: &mut L, name: &str) -> Reply
     requires { steps ≤ 1000000 }
-    ensures answered { (words : List Word) (left : Option (List ℕ)) (faults : ℕ) → IsCommand words (record { operand = OperandTree.file name.now; steps = steps })
-        → IsAnswer (call_of words left left faults faults (L.files library.old) (L.faults library.old) (L.faults library.new)) result.outcome }
-    ensures text { (words : List Word) (left : Option (List ℕ)) (faults : ℕ) → IsCommand words (record { operand = OperandTree.file name.now; steps = steps })
-        → IsTextOf (call_of words left left faults faults (L.files library.old) (L.faults library.old) (L.faults library.new)) result.outcome result.text.items }
-    ensures message { IfRefused result.outcome (λ refusal. result.message.items ≡ spec_refusal_text refusal) }
+    ensures answered { (c : Call) → IsCommand (map string_bytes c.words) (CommandTree.prove (OperandTree.file name.now) steps)
+        → c.left_now ≡ c.left → c.files ≡ L.files library.old → c.library_faults ≡ L.faults library.old
+        → c.library_faults_now ≡ L.faults library.new → Gives c result.outcome result.text.items }
+    ensures message { IsMessage result.outcome result.message.items }
     ensures files { L.files library.new ≡ L.files library.old }
+    ensures later { L.faults library.old ≤ L.faults library.new }
 {
     match read_file(alloc, library, name) {
         Ok(bytes) => answer_text(alloc, library, name, &bytes, steps),
@@ -253,24 +259,49 @@ fn answer_file<L: Library>(alloc: Global, steps: u32, library: &mut L, name: &st
     }
 }
 
+// What is answered to the command to prove the problem of an operand.
+fn prove<S: Source, L: Library>(
+    alloc: Global,
+    operand: &Operand,
+    steps: u32,
+    input: &mut S,
+    library: &mut L,
+) -> Reply
+    requires { steps ≤ 1000000 }
+    ensures answered { (words : Words) → IsCommand (map string_bytes words) (CommandTree.prove (operand_tree operand.now) steps)
+        → Gives
+        (call_of S.Source L.Library words input.old input.new library.old library.new) result.outcome result.text.items }
+    ensures message { IsMessage result.outcome result.message.items }
+    ensures reads { ReadsAtMost (input_limit + 1) (S.left input.old) (S.left input.new) }
+    ensures files { L.files library.new ≡ L.files library.old }
+    ensures source_later { S.faults input.old ≤ S.faults input.new }
+    ensures library_later { L.faults library.old ≤ L.faults library.new }
+{
+    match operand {
+        Operand::Source => answer_source(alloc, steps, input, library),
+        Operand::File(name) => answer_file(alloc, steps, library, name.text()),
+    }
+}
+
 // What is answered to a command.
 fn answer_command<S: Source, L: Library>(
     alloc: Global,
     command: &Command,
     input: &mut S,
     library: &mut L,
-) -> Answer
-    requires { command.now.steps ≤ 1000000 }
-    ensures answered { (words : List Word) → IsCommand words (command_tree command.now)
-        → IsAnswer (call_of words (S.left input.old) (S.left input.new) (S.faults input.old) (S.faults input.new) (L.files library.old) (L.faults library.old) (L.faults library.new)) result.outcome }
-    ensures text { (words : List Word) → IsCommand words (command_tree command.now)
-        → IsTextOf (call_of words (S.left input.old) (S.left input.new) (S.faults input.old) (S.faults input.new) (L.files library.old) (L.faults library.old) (L.faults library.new)) result.outcome result.text.items }
-    ensures message { IfRefused result.outcome (λ refusal. result.message.items ≡ spec_refusal_text refusal) }
+) -> Reply
+    requires { IsFew command.now }
+    ensures answered { (words : Words) → IsCommand (map string_bytes words) (command_tree command.now)
+        → Gives
+        (call_of S.Source L.Library words input.old input.new library.old library.new) result.outcome result.text.items }
+    ensures message { IsMessage result.outcome result.message.items }
+    ensures reads { ReadsAtMost (input_limit + 1) (S.left input.old) (S.left input.new) }
     ensures files { L.files library.new ≡ L.files library.old }
+    ensures source_later { S.faults input.old ≤ S.faults input.new }
+    ensures library_later { L.faults library.old ≤ L.faults library.new }
 {
-    match &command.operand {
-        Operand::Source => answer_source(alloc, command.steps, input, library),
-        Operand::File(name) => answer_file(alloc, command.steps, library, name.text()),
+    match command {
+        Command::Prove { operand, steps } => prove(alloc, operand, *steps, input, library),
     }
 }
 
@@ -281,11 +312,14 @@ pub fn answer<S: Source, L: Library>(
     words: &[String],
     input: &mut S,
     library: &mut L,
-) -> Answer
-    ensures answered { IsAnswer (call_of (map string_bytes words.now) (S.left input.old) (S.left input.new) (S.faults input.old) (S.faults input.new) (L.files library.old) (L.faults library.old) (L.faults library.new)) result.outcome }
-    ensures text { IsTextOf (call_of (map string_bytes words.now) (S.left input.old) (S.left input.new) (S.faults input.old) (S.faults input.new) (L.files library.old) (L.faults library.old) (L.faults library.new)) result.outcome result.text.items }
-    ensures message { IfRefused result.outcome (λ refusal. result.message.items ≡ spec_refusal_text refusal) }
+) -> Reply
+    ensures answered { Gives
+        (call_of S.Source L.Library words.now input.old input.new library.old library.new) result.outcome result.text.items }
+    ensures message { IsMessage result.outcome result.message.items }
+    ensures reads { ReadsAtMost (input_limit + 1) (S.left input.old) (S.left input.new) }
     ensures files { L.files library.new ≡ L.files library.old }
+    ensures source_later { S.faults input.old ≤ S.faults input.new }
+    ensures library_later { L.faults library.old ≤ L.faults library.new }
 {
     match read_words(alloc, words) {
         Ok(command) => answer_command(alloc, &command, input, library),

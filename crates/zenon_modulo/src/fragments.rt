@@ -17,7 +17,7 @@ fn holds_equality(form: &Form) -> bool
             holds_equality(f.get()) || holds_equality(g.get())
         }
         Form::All(_, f) | Form::Ex(_, f) => holds_equality(f.get()),
-        Form::AllType(f) => holds_equality(f.get()),
+        Form::AllType(f) | Form::ExType(f) => holds_equality(f.get()),
     }
 }
 
@@ -31,7 +31,11 @@ fn is_plain(form: &Form) -> bool
         Form::And(f, g) | Form::Or(f, g) | Form::Imp(f, g) | Form::Iff(f, g) => {
             is_plain(f.get()) && is_plain(g.get())
         }
-        Form::Equal(_, _, _) | Form::All(_, _) | Form::Ex(_, _) | Form::AllType(_) => false,
+        Form::Equal(_, _, _)
+        | Form::All(_, _)
+        | Form::Ex(_, _)
+        | Form::AllType(_)
+        | Form::ExType(_) => false,
     }
 }
 

@@ -1,7 +1,7 @@
 //! What the definitions come to, beside what the calls claim of them. Each function does nothing: its clause is the law.
-ghost use Rattle.zenon_modulo.specs.Laws.{SpelledProblemsAreEqual, CommandsAreEqual, MisusesAreEqual, CommandsAreNotMisused};
+ghost use Rattle.zenon_modulo.specs.Laws.{SpelledProblemsAreEqual, SpelledProblemsAreAccepted, ExplanationsAreEqual, CommandsAreEqual, MisusesAreEqual, CommandsAreNotMisused};
 
-use tff_typing::laws::one_problem;
+use tff_typing::laws::{first_fault, one_problem};
 use tptp_include::outcomes_are_equal;
 
 /// The text of an operand spells at most one problem. So the clauses of `run` speak of one and the same.
@@ -10,6 +10,24 @@ pub fn spelled_problems_are_equal()
 {
     outcomes_are_equal();
     one_problem();
+}
+
+/// A problem that is spelled is never refused, but for one cause: that it isn't built.
+pub fn spelled_problems_are_accepted()
+    ensures { SpelledProblemsAreAccepted }
+{
+    outcomes_are_equal();
+    one_problem();
+    first_fault();
+}
+
+/// At most one thing is wrong with an input. So where an input is refused, it is for this cause and no other, and at this place.
+pub fn explanations_are_equal()
+    ensures { ExplanationsAreEqual }
+{
+    outcomes_are_equal();
+    one_problem();
+    first_fault();
 }
 
 /// Words are at most one command.

@@ -1,5 +1,8 @@
-ghost use Rattle.std.specs.Prelude.{◌≡◌, ◌++◌, OnOk, IfOk, codes, map};
+ghost use Rattle.std.specs.Prelude.{◌≡◌, ◌++◌, OnOk, IfOk, IfSome, codes, map};
 ghost use Rattle.zm_logic.specs.View.{type_tree};
+ghost use Rattle.tptp_include.specs.Outcomes.{refusal_of};
+ghost use Rattle.tff_typing.specs.View.{found_tree, fault_tree};
+ghost use Rattle.zenon_modulo.specs.Outcome.{untyped_of, explanation_of};
 ghost use Rattle.zenon_modulo.specs.Message as spec;
 
 use crate::names::push_type;
@@ -19,7 +22,7 @@ fn push(text: &mut Vec<u8>, bytes: &[u8]) -> Result<(), AllocError>
 }
 
 fn push_place(text: &mut Vec<u8>, place: &Place) -> Result<(), AllocError>
-    ensures { OnOk result (text.new.items ≡ text.old.items ++ spec.place_text place.now) }
+    ensures { OnOk result (text.new.items ≡ text.old.items ++ spec.place_text place.now.file place.now.at) }
 {
     let mut buffer = Buffer::new();
     push(text, b" at ")?;
@@ -42,7 +45,7 @@ fn form_text(form: UnsupportedForm) -> &'static [u8]
 }
 
 fn push_at(text: &mut Vec<u8>, cause: &[u8], place: &Place) -> Result<(), AllocError>
-    ensures { OnOk result (text.new.items ≡ text.old.items ++ (cause.now ++ spec.place_text place.now)) }
+    ensures { OnOk result (text.new.items ≡ text.old.items ++ (cause.now ++ spec.place_text place.now.file place.now.at)) }
 {
     push(text, cause)?;
     push_place(text, place)
@@ -60,14 +63,14 @@ fn push_unsupported(
     form: UnsupportedForm,
     place: &Place,
 ) -> Result<(), AllocError>
-    ensures { OnOk result (text.new.items ≡ text.old.items ++ (codes "unsupported " ++ spec.form_text form ++ spec.place_text place.now)) }
+    ensures { OnOk result (text.new.items ≡ text.old.items ++ (codes "unsupported " ++ spec.form_text form ++ spec.place_text place.now.file place.now.at)) }
 {
     push(text, b"unsupported ")?;
     push_at(text, form_text(form), place)
 }
 
 fn push_gather(text: &mut Vec<u8>, refusal: &GatherRefusal) -> Result<(), AllocError>
-    ensures { OnOk result (text.new.items ≡ text.old.items ++ spec.gather_text refusal.now) }
+    ensures { OnOk result (IfSome (refusal_of refusal.now) (λ r. text.new.items ≡ text.old.items ++ spec.gather_text r)) }
 {
     match refusal {
         GatherRefusal::Syntax { place } => push_at(text, b"syntax", place),
@@ -83,7 +86,7 @@ fn push_gather(text: &mut Vec<u8>, refusal: &GatherRefusal) -> Result<(), AllocE
 }
 
 fn push_found(text: &mut Vec<u8>, symbols: &[Symbol], found: &Found) -> Result<(), AllocError>
-    ensures { OnOk result (text.new.items ≡ text.old.items ++ spec.found_text (map (λ s. s.name) symbols.now) found.now) }
+    ensures { OnOk result (text.new.items ≡ text.old.items ++ spec.found_text (map (λ s. s.name) symbols.now) (found_tree found.now)) }
 {
     match found {
         Found::Truth => push(text, b"$o"),
@@ -97,7 +100,7 @@ fn push_mismatch(
     wanted: &Found,
     got: &Found,
 ) -> Result<(), AllocError>
-    ensures { OnOk result (text.new.items ≡ text.old.items ++ codes ", wanted " ++ spec.found_text (map (λ s. s.name) symbols.now) wanted.now ++ codes ", got " ++ spec.found_text (map (λ s. s.name) symbols.now) got.now) }
+    ensures { OnOk result (text.new.items ≡ text.old.items ++ codes ", wanted " ++ spec.found_text (map (λ s. s.name) symbols.now) (found_tree wanted.now) ++ codes ", got " ++ spec.found_text (map (λ s. s.name) symbols.now) (found_tree got.now)) }
 {
     push(text, b", wanted ")?;
     push_found(text, symbols, wanted)?;
@@ -106,7 +109,7 @@ fn push_mismatch(
 }
 
 fn fault_text(fault: &Fault) -> &'static [u8]
-    ensures { result.now ≡ spec.fault_text fault.now }
+    ensures { result.now ≡ spec.fault_text (fault_tree fault.now) }
 {
     match fault {
         Fault::SecondConjecture => b"second conjecture",
@@ -116,13 +119,12 @@ fn fault_text(fault: &Fault) -> &'static [u8]
         Fault::Arity => b"arity",
         Fault::NotAType => b"not a type",
         Fault::NotATerm => b"not a term",
-        Fault::TypeQuantifier => b"type quantifier",
         Fault::Mismatch { .. } => b"mismatch",
     }
 }
 
 fn push_types(text: &mut Vec<u8>, symbols: &[Symbol], fault: &Fault) -> Result<(), AllocError>
-    ensures { OnOk result (text.new.items ≡ text.old.items ++ spec.mismatch_text (map (λ s. s.name) symbols.now) fault.now) }
+    ensures { OnOk result (text.new.items ≡ text.old.items ++ spec.mismatch_text (map (λ s. s.name) symbols.now) (fault_tree fault.now)) }
 {
     match fault {
         Fault::Mismatch { wanted, got } => push_mismatch(text, symbols, wanted, got),
@@ -132,20 +134,19 @@ fn push_types(text: &mut Vec<u8>, symbols: &[Symbol], fault: &Fault) -> Result<(
         | Fault::Unbound
         | Fault::Arity
         | Fault::NotAType
-        | Fault::NotATerm
-        | Fault::TypeQuantifier => Ok(()),
+        | Fault::NotATerm => Ok(()),
     }
 }
 
 fn push_typing(text: &mut Vec<u8>, refusal: &TypeRefusal) -> Result<(), AllocError>
-    ensures { OnOk result (text.new.items ≡ text.old.items ++ spec.typing_text refusal.now) }
+    ensures { OnOk result (text.new.items ≡ text.old.items ++ spec.untyped_text (untyped_of refusal.now)) }
 {
     push_at(text, fault_text(&refusal.fault), &refusal.place)?;
     push_types(text, refusal.symbols.as_slice(), &refusal.fault)
 }
 
 fn push_cause(text: &mut Vec<u8>, refusal: &InputRefusal) -> Result<(), AllocError>
-    ensures { OnOk result (text.new.items ≡ text.old.items ++ spec.cause_text refusal.now) }
+    ensures { OnOk result (IfSome (explanation_of refusal.now) (λ e. text.new.items ≡ text.old.items ++ spec.explanation_text e)) }
 {
     match refusal {
         InputRefusal::Gather(refusal) => push_gather(text, refusal),
@@ -157,7 +158,7 @@ fn push_cause(text: &mut Vec<u8>, refusal: &InputRefusal) -> Result<(), AllocErr
 
 /// What is told of a refused input.
 pub fn refusal_text(alloc: Global, refusal: &InputRefusal) -> Result<Vec<u8>, AllocError>
-    ensures { IfOk result (λ text. text.items ≡ spec.refusal_text refusal.now) }
+    ensures { IfOk result (λ text. IfSome (explanation_of refusal.now) (λ e. text.items ≡ spec.refusal_text e)) }
 {
     let mut text = Vec::from_slice(alloc, b"refused: ")?;
     push_cause(&mut text, refusal)?;

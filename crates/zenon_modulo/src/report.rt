@@ -1,12 +1,14 @@
 ghost use Rattle.std.specs.Prelude.{◌≡◌, ◌≢◌, true, map, IfOk};
+ghost use Rattle.zm_logic.specs.Problem.{IsTypedProblem};
 ghost use Rattle.zm_logic.specs.View.{problem_tree};
 ghost use Rattle.branch.specs.Stopping.{Cause};
 ghost use Rattle.branch.specs.State.{tree};
 ghost use Rattle.branch.specs.Causes.{cause_of};
 ghost use Rattle.valuation.specs.View.{valued_tree};
-ghost use Rattle.zenon_modulo.specs.Fragments.{is_quantifier_free as spec_is_quantifier_free};
-ghost use Rattle.zenon_modulo.specs.Answer.{IsCountermodel};
-ghost use Rattle.zenon_modulo.specs.Report.{IsClosedFor, IsStoppedFor, IsFoundFor, IsReport};
+ghost use Rattle.search.specs.Searched.{IsFound};
+ghost use Rattle.zenon_modulo.specs.Fragments.{is_built as spec_is_built, is_quantifier_free as spec_is_quantifier_free};
+ghost use Rattle.zenon_modulo.specs.Claims.{IsProof, IsCountermodel, TakesFirst};
+ghost use Rattle.zenon_modulo.specs.Stages.{IsStopped, GivesFor, HasTableau};
 ghost use Rattle.zenon_modulo.specs.Text.{falsified_text as spec_falsified_text};
 
 use crate::fragments::is_quantifier_free;
@@ -19,18 +21,18 @@ use zm_logic::TypedProblem;
 
 /// An answer, what is written for it to the sink for results, and what is told of a refused input.
 #[derive(Drop)]
-pub struct Answer {
+pub struct Reply {
     pub outcome: Outcome,
     pub text: Vec<u8>,
     pub message: Vec<u8>,
 }
 
 // An answer to a search.
-fn reported(alloc: Global, outcome: Outcome, text: Vec<u8>) -> Answer
+fn reported(alloc: Global, outcome: Outcome, text: Vec<u8>) -> Reply
     ensures outcome { result.outcome ≡ outcome }
     ensures text { result.text ≡ text }
 {
-    Answer {
+    Reply {
         outcome,
         text,
         message: Vec::new(alloc),
@@ -42,9 +44,11 @@ fn report_proved(
     problem: &TypedProblem,
     steps: u32,
     tableau: Tableau<Closed>,
-) -> Result<Answer, AllocError>
-    requires { IsClosedFor steps (problem_tree problem.now) (tree tableau) }
-    ensures { IfOk result (λ r. IsReport steps (problem_tree problem.now) r.outcome r.text.items) }
+) -> Result<Reply, AllocError>
+    requires proof { IsProof steps (problem_tree problem.now) (tree tableau) }
+    requires first { TakesFirst (tree tableau) }
+    ensures answer { IfOk result (λ r. GivesFor (problem_tree problem.now) steps r.outcome r.text.items) }
+    ensures searched { IfOk result (λ r. HasTableau r.outcome) }
 {
     let text = proved_text(alloc, &tableau)?;
     let outcome = Outcome::Proved { tableau };
@@ -64,7 +68,7 @@ fn countermodel_of(
     steps: u32,
     tableau: &Tableau<Open>,
 ) -> Result<Countermodel, AllocError>
-    requires stopped { IsStoppedFor steps (problem_tree problem.now) Cause.saturated tableau.now }
+    requires stopped { IsStopped steps (problem_tree problem.now) Cause.saturated tableau.now }
     requires quantifier_free { spec_is_quantifier_free (problem_tree problem.now) ≡ true }
     ensures valuation { IfOk result (λ m. IsCountermodel steps (problem_tree problem.now) (map valued_tree m.valuation) (tree tableau.now)) }
     ensures text { IfOk result (λ m. m.text.items ≡ spec_falsified_text (problem_tree problem.now) (map valued_tree m.valuation)) }
@@ -83,10 +87,11 @@ fn report_falsified(
     problem: &TypedProblem,
     steps: u32,
     tableau: Tableau<Open>,
-) -> Result<Answer, AllocError>
-    requires stopped { IsStoppedFor steps (problem_tree problem.now) Cause.saturated tableau }
+) -> Result<Reply, AllocError>
+    requires stopped { IsStopped steps (problem_tree problem.now) Cause.saturated tableau }
     requires quantifier_free { spec_is_quantifier_free (problem_tree problem.now) ≡ true }
-    ensures { IfOk result (λ r. IsReport steps (problem_tree problem.now) r.outcome r.text.items) }
+    ensures answer { IfOk result (λ r. GivesFor (problem_tree problem.now) steps r.outcome r.text.items) }
+    ensures searched { IfOk result (λ r. HasTableau r.outcome) }
 {
     let Countermodel { valuation, text } = countermodel_of(alloc, problem, steps, &tableau)?;
     let outcome = Outcome::Falsified { valuation, tableau };
@@ -99,10 +104,11 @@ fn report_unknown(
     steps: u32,
     why: Why,
     tableau: Tableau<Open>,
-) -> Result<Answer, AllocError>
-    requires stopped { IsStoppedFor steps (problem_tree problem.now) (cause_of why) tableau }
+) -> Result<Reply, AllocError>
+    requires stopped { IsStopped steps (problem_tree problem.now) (cause_of why) tableau }
     requires unsaturated { spec_is_quantifier_free (problem_tree problem.now) ≡ true → cause_of why ≢ Cause.saturated }
-    ensures { IfOk result (λ r. IsReport steps (problem_tree problem.now) r.outcome r.text.items) }
+    ensures answer { IfOk result (λ r. GivesFor (problem_tree problem.now) steps r.outcome r.text.items) }
+    ensures searched { IfOk result (λ r. HasTableau r.outcome) }
 {
     let text = unknown_text(alloc, &why, &tableau)?;
     let outcome = Outcome::Unknown { why, tableau };
@@ -115,9 +121,10 @@ fn report_saturated(
     problem: &TypedProblem,
     steps: u32,
     tableau: Tableau<Open>,
-) -> Result<Answer, AllocError>
-    requires { IsStoppedFor steps (problem_tree problem.now) Cause.saturated tableau }
-    ensures { IfOk result (λ r. IsReport steps (problem_tree problem.now) r.outcome r.text.items) }
+) -> Result<Reply, AllocError>
+    requires { IsStopped steps (problem_tree problem.now) Cause.saturated tableau }
+    ensures answer { IfOk result (λ r. GivesFor (problem_tree problem.now) steps r.outcome r.text.items) }
+    ensures searched { IfOk result (λ r. HasTableau r.outcome) }
 {
     if is_quantifier_free(problem.problem()) {
         return report_falsified(alloc, problem, steps, tableau);
@@ -131,9 +138,10 @@ fn report_open(
     steps: u32,
     tableau: Tableau<Open>,
     why: Why,
-) -> Result<Answer, AllocError>
-    requires { IsStoppedFor steps (problem_tree problem.now) (cause_of why) tableau }
-    ensures { IfOk result (λ r. IsReport steps (problem_tree problem.now) r.outcome r.text.items) }
+) -> Result<Reply, AllocError>
+    requires { IsStopped steps (problem_tree problem.now) (cause_of why) tableau }
+    ensures answer { IfOk result (λ r. GivesFor (problem_tree problem.now) steps r.outcome r.text.items) }
+    ensures searched { IfOk result (λ r. HasTableau r.outcome) }
 {
     match why {
         Why::Saturated => report_saturated(alloc, problem, steps, tableau),
@@ -152,9 +160,12 @@ pub fn report(
     problem: &TypedProblem,
     steps: u32,
     searched: Searched,
-) -> Result<Answer, AllocError>
-    requires { IsFoundFor steps (problem_tree problem.now) searched }
-    ensures { IfOk result (λ r. IsReport steps (problem_tree problem.now) r.outcome r.text.items) }
+) -> Result<Reply, AllocError>
+    requires typed { IsTypedProblem (problem_tree problem.now) }
+    requires built { spec_is_built (problem_tree problem.now) ≡ true }
+    requires found { IsFound (problem_tree problem.now) steps 10000 searched }
+    ensures answer { IfOk result (λ r. GivesFor (problem_tree problem.now) steps r.outcome r.text.items) }
+    ensures searched { IfOk result (λ r. HasTableau r.outcome) }
 {
     match searched {
         Searched::Closed(tableau) => report_proved(alloc, problem, steps, tableau),

@@ -18,11 +18,11 @@ pub enum Operand {
     File(Text),
 }
 
-/// What is asked for: to prove the problem of the operand in at most so many Steps.
+/// What is asked for, by mode.
 #[derive(Debug, Drop)]
-pub struct Command {
-    pub operand: Operand,
-    pub steps: u32,
+pub enum Command {
+    /// To prove the problem of the operand in at most so many Steps.
+    Prove { operand: Operand, steps: u32 },
 }
 
 /// What is wrong with the words of a call.
@@ -140,7 +140,7 @@ fn read_operand(
         }
     };
     match read_options(alloc, options) {
-        Ok(steps) => Ok(Command { operand, steps }),
+        Ok(steps) => Ok(Command::Prove { operand, steps }),
         Err(OptionsStop::BadOptions) => Err(WordsStop::Usage(UsageRefusal::BadOptions)),
         Err(OptionsStop::Memory) => Err(WordsStop::Memory),
     }

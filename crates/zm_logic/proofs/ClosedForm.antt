@@ -67,7 +67,7 @@ module _ (o : Opening) where
   closed_before k (Form.negation f) h = closed_before k f h
   closed_before k (Form.binary c f g) h = (closed_before k f h.0, closed_before k g h.1)
   closed_before k (Form.quantified q t f) h = (closed_type_before k t h.0, closed_before (k + 1) f h.1)
-  closed_before k (Form.for_all_types f) h = closed_before (k + 1) f h
+  closed_before k (Form.quantified_types q f) h = closed_before (k + 1) f h
 
 module _ (symbols : List Symbol) where
   mutual
@@ -90,7 +90,7 @@ module _ (symbols : List Symbol) where
   form_is_closed (WellTyped.negation h) = form_is_closed h
   form_is_closed (WellTyped.binary h g) = (form_is_closed h, form_is_closed g)
   form_is_closed (WellTyped.quantified {t = t} {f = f} n fresh it h) = (type_is_closed symbols t it, closed_before (Opening.of_term (Term.eps n t)) 0 f (form_is_closed h))
-  form_is_closed (WellTyped.for_all_types {f = f} n fresh h) = closed_before (Opening.of_type (Ty.param n)) 0 f (form_is_closed h)
+  form_is_closed (WellTyped.quantified_types {f = f} n fresh h) = closed_before (Opening.of_type (Ty.param n)) 0 f (form_is_closed h)
 
 pub forms_are_closed : laws.WellTypedFormsAreClosed
 forms_are_closed symbols f w = form_is_closed symbols w

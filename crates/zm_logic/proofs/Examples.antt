@@ -1,11 +1,13 @@
 -- Worked derivations: the definitions are inhabited.
 use Rattle.std.proofs.Common.{ℕ, List, [], ◌∷◌, refl, arith}
-use Rattle.zm_logic.specs.Tree.{Tys, Term, Terms, Form, Symbol, both, implies, for_all}
+use Rattle.zm_logic.specs.Tree.{Ty, Tys, Term, Terms, Form, Symbol, both, implies, for_all, exists_types, for_all_types}
+use Rattle.zm_logic.specs.Opening.{at_type}
 use Rattle.zm_logic.specs.Parameter.{IsFreshForAll}
 use Rattle.zm_logic.specs.Typing.{IsType, WellTyped, individual, individuals}
 use Rattle.zm_logic.specs.Rewriting.{Fit, Step, Congruent}
 use Rattle.zm_logic.specs.Calculus.{Derives}
 use Rattle.zm_logic.specs.Laws as laws
+use Rattle.zm_logic.proofs.Each.{some_fresh}
 
 pub contradictions : laws.ContradictionsAreRefuted
 contradictions symbols rules f gamma = Derives.closes f (0, omega arith, refl) (1, omega arith, refl)
@@ -48,6 +50,46 @@ drinkers symbols rules r =
         (drinks r some ∷ Form.negation (everyone r) ∷ Form.negation (implies (drinks r some) (everyone r)) ∷ Form.negation (laws.drinker r) ∷ [])
     fresh =
         ((tt, ((λ e. cc, tt), tt)), ((tt, (tt, (tt, tt))), (((tt, ((λ e. cc, tt), tt)), (tt, (tt, (tt, tt)))), ((tt, ((tt, (tt, tt)), (tt, (tt, (tt, tt))))), tt))))
+
+-- the same over types
+abbrev type_drinks : ℕ → Ty → Form
+type_drinks r t = Form.atom r (Tys.more t Tys.none) Terms.none
+
+abbrev every_type : ℕ → Form
+every_type r = for_all_types (type_drinks r (Ty.bound 0))
+
+abbrev every_type_if_one : ℕ → Form
+every_type_if_one r = implies (type_drinks r (Ty.bound 0)) (every_type r)
+
+pub drinkers_over_types : laws.DrinkerOverTypesIsDerived
+drinkers_over_types symbols rules r =
+    Derives.not_exists_types (every_type_if_one r) (Ty.meta 0) (0, omega arith, refl) tt
+    (Derives.not_implies (type_drinks r (Ty.meta 0)) (every_type r) (0, omega arith, refl)
+    (Derives.not_for_all_types (type_drinks r (Ty.bound 0)) 1 (1, omega arith, refl) fresh
+    (Derives.not_exists_types (every_type_if_one r) (Ty.param 1) (4, omega arith, refl) tt
+    (Derives.not_implies (type_drinks r (Ty.param 1)) (every_type r) (0, omega arith, refl)
+    (Derives.closes (type_drinks r (Ty.param 1)) (0, omega arith, refl) (3, omega arith, refl))))))
+  where
+    fresh : IsFreshForAll 1
+        (type_drinks r (Ty.meta 0) ∷ Form.negation (every_type r) ∷ Form.negation (implies (type_drinks r (Ty.meta 0)) (every_type r))
+        ∷ Form.negation (laws.drinker_over_types r) ∷ [])
+    fresh =
+        (((λ e. cc, tt), tt), (((tt, tt), tt), ((((λ e. cc, tt), tt), ((tt, tt), tt)), ((((tt, tt), tt), ((tt, tt), tt)), tt))))
+
+-- each direction opens one side at a fresh type parameter, and puts the parameter into the other
+pub type_quantifiers_dual : laws.TypeQuantifiersAreDual
+type_quantifiers_dual symbols rules f =
+    let n = some_fresh f in
+    let none = for_all_types (Form.negation f) in
+    Derives.not_iff (exists_types f) (Form.negation none) (0, omega arith, refl)
+    (Derives.existential_types f n.0 (0, omega arith, refl) (n.1, (n.1, ((n.1, n.1), tt)))
+    (Derives.not_not none (2, omega arith, refl)
+    (Derives.universal_types (Form.negation f) (Ty.param n.0) (0, omega arith, refl) tt
+    (Derives.closes (at_type f (Ty.param n.0)) (2, omega arith, refl) (0, omega arith, refl)))))
+    (Derives.not_for_all_types (Form.negation f) n.0 (1, omega arith, refl) (n.1, (n.1, ((n.1, n.1), tt)))
+    (Derives.not_not (at_type f (Ty.param n.0)) (0, omega arith, refl)
+    (Derives.not_exists_types f (Ty.param n.0) (2, omega arith, refl) tt
+    (Derives.closes (at_type f (Ty.param n.0)) (1, omega arith, refl) (0, omega arith, refl)))))
 
 pub symmetry : laws.SymmetryIsDerived
 symmetry symbols rules t a b =

@@ -26,7 +26,7 @@ no_step (Step.negation h) = no_step h
 no_step (Step.binary_left h) = no_step h
 no_step (Step.binary_right h) = no_step h
 no_step (Step.quantified n x y h) = no_step h
-no_step (Step.for_all_types n x y h) = no_step h
+no_step (Step.quantified_types n x y h) = no_step h
 
 equal : (symbols : List Symbol) {f g : Form} → Congruent symbols [] f g → f ≡ g
 equal symbols (Congruent.same w) = refl

@@ -14,4 +14,5 @@ pub mod Weakening
 pub mod Examples
 pub mod Trivial
 pub mod Identity
+pub mod Innermost
 pub mod Valuation

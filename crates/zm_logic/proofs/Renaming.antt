@@ -61,7 +61,7 @@ module _ (symbols : List Symbol) (s : Substitution) (r : Renames s) where
   respects_form (Form.negation f) = respects_form f
   respects_form (Form.binary c f g) = (respects_form f, respects_form g)
   respects_form (Form.quantified q t f) = (respects_type symbols s t, respects_form f)
-  respects_form (Form.for_all_types f) = respects_form f
+  respects_form (Form.quantified_types q f) = respects_form f
 
   pub respects_renamed_term : (a : Term) → EachInTerm (Respects symbols s) a
   respects_renamed_term a = respects_term a
@@ -93,7 +93,7 @@ sub_free_form s (Form.equal t a b) e = cc (sub_free s.types t e.0, sub_free_term
 sub_free_form s (Form.negation f) e = ap Form.negation (sub_free_form s f e)
 sub_free_form s (Form.binary c f g) e = cc (sub_free_form s f e.0, sub_free_form s g e.1)
 sub_free_form s (Form.quantified q t f) e = cc (sub_free s.types t e.0, sub_free_form s f e.1)
-sub_free_form s (Form.for_all_types f) e = ap Form.for_all_types (sub_free_form s f e)
+sub_free_form s (Form.quantified_types q f) e = ap (Form.quantified_types q) (sub_free_form s f e)
 
 abbrev pub sub_side : Substitution → Side → Side
 sub_side s (Side.of_term a) = Side.of_term (sub_term s a)
@@ -181,11 +181,11 @@ module _ (rules : List Rule) (free : AreWithoutParameters rules) where
       let ih = step_sub (rename_eps s n m.0) (renames_eps s n m.0 c) h in
       let e : Form → Type 0 = λ z. Step rules z (sub (rename_eps s n m.0) (at_term g (Term.eps n t))) in
       Step.quantified m.0 m.1 m.2 (subst (Step rules (at_term (sub s f) (Term.eps m.0 (sub_type s.types t)))) (sub_at_eps s (renames_closed s c) n m.0 t g y.1) (subst e (sub_at_eps s (renames_closed s c) n m.0 t f x.1) ih))
-  step_sub s c (Step.for_all_types {f = f} {g = g} n x y h) =
+  step_sub s c (Step.quantified_types {q = q} {f = f} {g = g} n x y h) =
       let m = some_fresh_both (sub s f) (sub s g) in
       let ih = step_sub (rename_param s n m.0) (renames_param s n m.0 c) h in
       let e : Form → Type 0 = λ z. Step rules z (sub (rename_param s n m.0) (at_type g (Ty.param n))) in
-      Step.for_all_types m.0 m.1 m.2 (subst (Step rules (at_type (sub s f) (Ty.param m.0))) (sub_at_param s (renames_closed s c) n m.0 g y) (subst e (sub_at_param s (renames_closed s c) n m.0 f x) ih))
+      Step.quantified_types m.0 m.1 m.2 (subst (Step rules (at_type (sub s f) (Ty.param m.0))) (sub_at_param s (renames_closed s c) n m.0 g y) (subst e (sub_at_param s (renames_closed s c) n m.0 f x) ih))
 
   pub congruent_sub : (symbols : List Symbol) → IsSignature symbols → (s : Substitution) → Renames s → {f g : Form} → Congruent symbols rules f g
       → Congruent symbols rules (sub s f) (sub s g)

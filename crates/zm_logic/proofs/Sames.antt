@@ -58,7 +58,7 @@ same-self (Form.equal t a b) = and_from _ _ (same_type-self t) (and_from _ _ (sa
 same-self (Form.negation f) = same-self f
 same-self (Form.binary c f g) = and_from _ _ (same_connective-self c) (and_from _ _ (same-self f) (same-self g))
 same-self (Form.quantified q t f) = and_from _ _ (same_quantifier-self q) (and_from _ _ (same_type-self t) (same-self f))
-same-self (Form.for_all_types f) = same-self f
+same-self (Form.quantified_types q f) = and_from _ _ (same_quantifier-self q) (same-self f)
 
 mutual
   pub same_type-true : (t u : Ty) → same_type t u ≡ true → t ≡ u
@@ -109,7 +109,9 @@ same-true (Form.binary c f a) (Form.binary d g b) h =
 same-true (Form.quantified c t f) (Form.quantified d u g) h =
     let k = and_parts (same_quantifier c d) (same_type t u && same f g) h in let l = and_parts (same_type t u) (same f g) k.1 in
     let o = same_quantifier-true c d k.0 in let p = same_type-true t u l.0 in let q = same-true f g l.1 in cc
-same-true (Form.for_all_types f) (Form.for_all_types g) h = ap Form.for_all_types (same-true f g h)
+same-true (Form.quantified_types c f) (Form.quantified_types d g) h =
+    let k = and_parts (same_quantifier c d) (same f g) h in
+    let o = same_quantifier-true c d k.0 in let p = same-true f g k.1 in cc
 same-true f g h = cc
 
 pub Contains-here : {A : Type 0} (x : A) (xs : List A) → Contains (x ∷ xs) x

@@ -4,7 +4,7 @@ use Rattle.std.proofs.Common.{◌≡◌, zero, suc, Bool, true, false, not, ◌&
 use Rattle.std.specs.List.{Contains}
 use Rattle.std.proofs.lemmas.List.Elements.{All-contains, All-append, All-map}
 use Rattle.std.proofs.lemmas.Bool.{and_parts, or_cases}
-use Rattle.zm_logic.specs.Tree.{Tys, Term, Terms, Form, Symbol, both, either, implies, iff, for_all, exists, differ}
+use Rattle.zm_logic.specs.Tree.{Tys, Term, Terms, Form, Symbol, both, either, implies, iff, for_all, exists, for_all_types, exists_types, differ}
 use Rattle.zm_logic.specs.Typing.{HaveTypes, argument_types}
 use Rattle.zm_logic.specs.Calculus.{Derives, DerivesEach, differ_each}
 use Rattle.zm_logic.specs.Same.{same_term}
@@ -131,10 +131,12 @@ module _ (symbols : List Symbol) (v : Form → Bool) where
         ]
     sound g (Derives.existential t f n c h d) = absurd (g (exists t f) c).0
     sound g (Derives.not_for_all t f n c h d) = absurd (g (Form.negation (for_all t f)) c).0
-    sound g (Derives.not_for_all_types f n c h d) = absurd (g (Form.negation (Form.for_all_types f)) c).0
+    sound g (Derives.existential_types f n c h d) = absurd (g (exists_types f) c).0
+    sound g (Derives.not_for_all_types f n c h d) = absurd (g (Form.negation (for_all_types f)) c).0
     sound g (Derives.universal t f u c h d) = absurd (g (for_all t f) c).0
     sound g (Derives.not_exists t f u c h d) = absurd (g (Form.negation (exists t f)) c).0
-    sound g (Derives.for_all_types f t c h d) = absurd (g (Form.for_all_types f) c).0
+    sound g (Derives.universal_types f t c h d) = absurd (g (for_all_types f) c).0
+    sound g (Derives.not_exists_types f t c h d) = absurd (g (Form.negation (exists_types f)) c).0
     sound g (Derives.equal_arguments p x ts us vs e h k c d each) =
         let same = no_difference (argument_types x ts) us vs h k (none_good g each) in
         clash (v (Form.atom p ts vs)) (subst (λ ws. v (Form.atom p ts ws) ≡ true) same (g (Form.atom p ts us) c).1)
@@ -184,7 +186,7 @@ has_no_quantifier (Form.equal t a b) h = absurd h
 has_no_quantifier (Form.negation f) h = has_no_quantifier f h
 has_no_quantifier (Form.binary c f g) h = (has_no_quantifier f h.0, has_no_quantifier g h.1)
 has_no_quantifier (Form.quantified q t f) h = absurd h
-has_no_quantifier (Form.for_all_types f) h = absurd h
+has_no_quantifier (Form.quantified_types q f) h = absurd h
 
 same_truth : (v : Form → Bool) (f : Form) → IsQuantifierFree f → truth_in_terms v f ≡ truth_of v f
 same_truth v Form.truth h = refl
@@ -195,7 +197,7 @@ same_truth v (Form.negation f) h = ap not (same_truth v f h)
 same_truth v (Form.binary c f g) h =
     ap (λ x. connected c x (truth_in_terms v g)) (same_truth v f h.0) ∙ ap (connected c (truth_of v f)) (same_truth v g h.1)
 same_truth v (Form.quantified q t f) h = absurd h
-same_truth v (Form.for_all_types f) h = absurd h
+same_truth v (Form.quantified_types q f) h = absurd h
 
 pub not_all_true_in_terms : laws.RefutedFormsAreNotAllTrueInTerms
 not_all_true_in_terms symbols gamma v free d true_ =

@@ -1,7 +1,7 @@
 -- A sequent with more formulas has a derivation too. An epsilon term may have to be renamed on the way.
 use Rattle.std.proofs.Common.{ℕ, ◌≡◌, zero, suc, ◌⊎◌, inl, inr, refl, ap, sym, ◌∙◌, subst, arith, List, [], ◌∷◌, map, Some}
 use Rattle.std.specs.List.{Contains}
-use Rattle.zm_logic.specs.Tree.{Ty, Tys, Term, Terms, Form, Opening, Symbol, Rule, both, either, implies, iff, for_all, exists, differ}
+use Rattle.zm_logic.specs.Tree.{Ty, Tys, Term, Terms, Form, Opening, Symbol, Rule, both, either, implies, iff, for_all, exists, for_all_types, exists_types, differ}
 use Rattle.zm_logic.specs.Opening.{at_term, at_type}
 use Rattle.zm_logic.specs.Parameter.{IsNot, IsFresh, IsFreshForAll}
 use Rattle.zm_logic.specs.Typing.{HaveTypes, IsSignature, symbol_at, argument_types}
@@ -130,11 +130,19 @@ module _ (symbols : List Symbol) (rules : List Rule) (sig : IsSignature symbols)
         (subst (λ y. Derives symbols rules (Form.negation y ∷ delta)) e
         (renamed x (renames_eps s n m.0 r) (sub x (Form.negation (at_term f (Term.eps n t))) ∷ delta)
         (within_more x (Form.negation (at_term f (Term.eps n t))) g delta (within_eps s n m.0 g delta fresh w)) d))
+    renamed s r delta w (Derives.existential_types {gamma = g} f n c fresh d) =
+        let m = some_fresh_for_all delta in
+        let x = rename_param s n m.0 in
+        let e = sub_at_param s (renames_closed s r) n m.0 f (fresh_member n (exists_types f) g fresh c) in
+        Derives.existential_types (sub s f) m.0 (w (exists_types f) c) m.1
+        (subst (λ y. Derives symbols rules (y ∷ delta)) e
+        (renamed x (renames_param s n m.0 r) (sub x (at_type f (Ty.param n)) ∷ delta)
+        (within_more x (at_type f (Ty.param n)) g delta (within_param s n m.0 g delta fresh w)) d))
     renamed s r delta w (Derives.not_for_all_types {gamma = g} f n c fresh d) =
         let m = some_fresh_for_all delta in
         let x = rename_param s n m.0 in
-        let e = sub_at_param s (renames_closed s r) n m.0 f (fresh_member n (Form.negation (Form.for_all_types f)) g fresh c) in
-        Derives.not_for_all_types (sub s f) m.0 (w (Form.negation (Form.for_all_types f)) c) m.1
+        let e = sub_at_param s (renames_closed s r) n m.0 f (fresh_member n (Form.negation (for_all_types f)) g fresh c) in
+        Derives.not_for_all_types (sub s f) m.0 (w (Form.negation (for_all_types f)) c) m.1
         (subst (λ y. Derives symbols rules (Form.negation y ∷ delta)) e
         (renamed x (renames_param s n m.0 r) (sub x (Form.negation (at_type f (Ty.param n))) ∷ delta)
         (within_more x (Form.negation (at_type f (Ty.param n))) g delta (within_param s n m.0 g delta fresh w)) d))
@@ -148,11 +156,16 @@ module _ (symbols : List Symbol) (rules : List Rule) (sig : IsSignature symbols)
         (sub_has_type symbols sig s (renames_puts symbols s r) (renames_closed s r) u t h (respects_renamed_term symbols s r u))
         (subst (λ y. Derives symbols rules (Form.negation y ∷ delta)) (sub_open s (renames_closed s r) 0 (Opening.of_term u) f)
         (renamed s r (sub s (Form.negation (at_term f u)) ∷ delta) (within_more s (Form.negation (at_term f u)) g delta w) d))
-    renamed s r delta w (Derives.for_all_types {gamma = g} f t c h d) =
-        Derives.for_all_types (sub s f) (sub_type s.types t) (w (Form.for_all_types f) c)
+    renamed s r delta w (Derives.universal_types {gamma = g} f t c h d) =
+        Derives.universal_types (sub s f) (sub_type s.types t) (w (for_all_types f) c)
         (sub_is_type symbols sig s (renames_puts symbols s r) t h)
         (subst (λ y. Derives symbols rules (y ∷ delta)) (sub_open s (renames_closed s r) 0 (Opening.of_type t) f)
         (renamed s r (sub s (at_type f t) ∷ delta) (within_more s (at_type f t) g delta w) d))
+    renamed s r delta w (Derives.not_exists_types {gamma = g} f t c h d) =
+        Derives.not_exists_types (sub s f) (sub_type s.types t) (w (Form.negation (exists_types f)) c)
+        (sub_is_type symbols sig s (renames_puts symbols s r) t h)
+        (subst (λ y. Derives symbols rules (Form.negation y ∷ delta)) (sub_open s (renames_closed s r) 0 (Opening.of_type t) f)
+        (renamed s r (sub s (Form.negation (at_type f t)) ∷ delta) (within_more s (Form.negation (at_type f t)) g delta w) d))
     renamed s r delta w (Derives.equal_arguments p x ts us vs e y z c d h) =
         Derives.equal_arguments p x (sub_types s.types ts) (sub_terms s us) (sub_terms s vs) e
         (arguments_sub symbols sig s r x p ts us e y) (arguments_sub symbols sig s r x p ts vs e z) (w (Form.atom p ts us) c)

@@ -3,7 +3,7 @@
 -- its last line up: the sequent has a derivation where the sequents before it have one.
 use Rattle.std.specs.Prelude.{ℕ, ◌≡◌, List, [], ◌∷◌, Some}
 use Rattle.std.specs.List.{Contains}
-use Rattle.zm_logic.specs.Tree.{Ty, Tys, Term, Terms, Form, Rule, Symbol, both, either, implies, iff, for_all, exists, differ}
+use Rattle.zm_logic.specs.Tree.{Ty, Tys, Term, Terms, Form, Rule, Symbol, both, either, implies, iff, for_all, exists, for_all_types, exists_types, differ}
 use Rattle.zm_logic.specs.Opening.{at_term, at_type}
 use Rattle.zm_logic.specs.Parameter.{IsFreshForAll}
 use Rattle.zm_logic.specs.Typing.{IsType, HasType, HaveTypes, symbol_at, argument_types}
@@ -51,7 +51,9 @@ module _ (symbols : List Symbol) (rules : List Rule) where
       not_for_all : {gamma : List Form} (t : Ty) (f : Form) (n : ℕ) → Contains gamma (Form.negation (for_all t f))
           → IsFreshForAll n gamma → Derives (Form.negation (at_term f (Term.eps n t)) ∷ gamma)
           → Derives gamma
-      not_for_all_types : {gamma : List Form} (f : Form) (n : ℕ) → Contains gamma (Form.negation (Form.for_all_types f))
+      existential_types : {gamma : List Form} (f : Form) (n : ℕ) → Contains gamma (exists_types f) → IsFreshForAll n gamma
+          → Derives (at_type f (Ty.param n) ∷ gamma) → Derives gamma
+      not_for_all_types : {gamma : List Form} (f : Form) (n : ℕ) → Contains gamma (Form.negation (for_all_types f))
           → IsFreshForAll n gamma → Derives (Form.negation (at_type f (Ty.param n)) ∷ gamma)
           → Derives gamma
       -- a well typed term of the binder's type, or a type, over any parameters
@@ -59,8 +61,10 @@ module _ (symbols : List Symbol) (rules : List Rule) where
           → Derives (at_term f u ∷ gamma) → Derives gamma
       not_exists : {gamma : List Form} (t : Ty) (f : Form) (u : Term) → Contains gamma (Form.negation (exists t f))
           → HasType symbols u t → Derives (Form.negation (at_term f u) ∷ gamma) → Derives gamma
-      for_all_types : {gamma : List Form} (f : Form) (t : Ty) → Contains gamma (Form.for_all_types f) → IsType symbols 0 t
+      universal_types : {gamma : List Form} (f : Form) (t : Ty) → Contains gamma (for_all_types f) → IsType symbols 0 t
           → Derives (at_type f t ∷ gamma) → Derives gamma
+      not_exists_types : {gamma : List Form} (f : Form) (t : Ty) → Contains gamma (Form.negation (exists_types f))
+          → IsType symbols 0 t → Derives (Form.negation (at_type f t) ∷ gamma) → Derives gamma
       -- one upper sequent for each argument of the predicate, or of the function; both lists have the declared types
       equal_arguments : {gamma : List Form} (p : ℕ) (d : Symbol) (ts : Tys) (us vs : Terms) → symbol_at symbols p ≡ Some d
           → HaveTypes symbols us (argument_types d ts) → HaveTypes symbols vs (argument_types d ts)

@@ -1,12 +1,13 @@
 -- What the definitions promise of one another. Each statement is the contract of a function of the module laws.
 use Rattle.std.specs.Prelude.{ℕ, codes, ◌≡◌, ◌↔◌, Bool, true, false, not, List, [], ◌∷◌, All}
 use Rattle.std.specs.List.{Contains}
-use Rattle.zm_logic.specs.Tree.{Ty, Tys, Term, Terms, Form, Problem, Side, Rule, Symbol, Sense, Quantifier, both, implies, for_all, exists}
+use Rattle.zm_logic.specs.Tree.{Ty, Tys, Term, Terms, Form, Problem, Side, Rule, Symbol, Sense, Quantifier, both, implies, iff, for_all, exists, for_all_types, exists_types}
 use Rattle.zm_logic.specs.Opening.{at_term, at_type, close}
 use Rattle.zm_logic.specs.Parameter.{EachInTerm, EachIn, Never, IsFresh}
 use Rattle.zm_logic.specs.Index.{IsClosed}
 use Rattle.zm_logic.specs.Typing.{IsType, HasType, WellTyped, IsSignature, individual}
-use Rattle.zm_logic.specs.Rewriting.{Congruent}
+use Rattle.zm_logic.specs.Rewriting.{Step, Congruent}
+use Rattle.zm_logic.specs.Innermost.{IsNormal, InnermostStep, Innermost}
 use Rattle.zm_logic.specs.Calculus.{Derives}
 use Rattle.zm_logic.specs.Same.{same_type, same_term, same, has}
 use Rattle.zm_logic.specs.Truth.{Valued, IsQuantifierFree, IsTrueUnder, Falsifies, refuted, connected}
@@ -42,8 +43,8 @@ InstancesAreWellTyped =
 -- and the body of a formula that is quantified over types, at each type
 abbrev pub TypeInstancesAreWellTyped : Type 0
 TypeInstancesAreWellTyped =
-    (symbols : List Symbol) (f : Form) (t : Ty) → IsSignature symbols
-    → WellTyped symbols (Form.for_all_types f) → IsType symbols 0 t → WellTyped symbols (at_type f t)
+    (symbols : List Symbol) (q : Quantifier) (f : Form) (t : Ty) → IsSignature symbols
+    → WellTyped symbols (Form.quantified_types q f) → IsType symbols 0 t → WellTyped symbols (at_type f t)
 
 -- a well typed formula has no loose index
 abbrev pub WellTypedFormsAreClosed : Type 0
@@ -88,6 +89,24 @@ abbrev pub DrinkerIsDerived : Type 0
 DrinkerIsDerived =
     (symbols : List Symbol) (rules : List Rule) (r : ℕ) → Derives symbols rules (Form.negation (drinker r) ∷ [])
 
+-- the drinker's formula over types  ? [A: $tType] : (r(A) => ! [B: $tType] : r(B)),  for a predicate r of one type
+abbrev pub drinker_over_types : ℕ → Form
+drinker_over_types r =
+    exists_types
+    (implies (Form.atom r (Tys.more (Ty.bound 0) Tys.none) Terms.none)
+    (for_all_types (Form.atom r (Tys.more (Ty.bound 0) Tys.none) Terms.none)))
+
+-- the drinker's formula over types is derived
+abbrev pub DrinkerOverTypesIsDerived : Type 0
+DrinkerOverTypesIsDerived =
+    (symbols : List Symbol) (rules : List Rule) (r : ℕ) → Derives symbols rules (Form.negation (drinker_over_types r) ∷ [])
+
+-- the two quantifiers over types are dual:  ? [A: $tType] : f <=> ~ ! [A: $tType] : ~f  is derived
+abbrev pub TypeQuantifiersAreDual : Type 0
+TypeQuantifiersAreDual =
+    (symbols : List Symbol) (rules : List Rule) (f : Form)
+    → Derives symbols rules (Form.negation (iff (exists_types f) (Form.negation (for_all_types (Form.negation f)))) ∷ [])
+
 -- equality is symmetric: a = b => b = a  is derived
 abbrev pub SymmetryIsDerived : Type 0
 SymmetryIsDerived =
@@ -120,7 +139,7 @@ HasNoQuantifier (Form.equal t a b) = Unit {0}
 HasNoQuantifier (Form.negation f) = HasNoQuantifier f
 HasNoQuantifier (Form.binary c f g) = HasNoQuantifier f × HasNoQuantifier g
 HasNoQuantifier (Form.quantified q t f) = ⊥
-HasNoQuantifier (Form.for_all_types f) = ⊥
+HasNoQuantifier (Form.quantified_types q f) = ⊥
 
 -- its truth table over the truth of its atoms, where each term stands for itself: two terms are equal where they are the
 -- same tree
@@ -132,7 +151,7 @@ truth_in_terms v (Form.equal t a b) = same_term a b
 truth_in_terms v (Form.negation f) = not (truth_in_terms v f)
 truth_in_terms v (Form.binary c f g) = connected c (truth_in_terms v f) (truth_in_terms v g)
 truth_in_terms v (Form.quantified q t f) = false
-truth_in_terms v (Form.for_all_types f) = false
+truth_in_terms v (Form.quantified_types q f) = false
 
 -- the same with equality: formulas with no quantifier that are refuted with no rules are not all true of the terms themselves
 abbrev pub RefutedFormsAreNotAllTrueInTerms : Type 0
@@ -162,6 +181,14 @@ abbrev pub CongruenceIsTransitive : Type 0
 CongruenceIsTransitive =
     (symbols : List Symbol) (rules : List Rule) (f g h : Form)
     → Congruent symbols rules f g → Congruent symbols rules g h → Congruent symbols rules f h
+
+-- a leftmost innermost step is a step
+abbrev pub InnermostStepsAreSteps : Type 0
+InnermostStepsAreSteps = (rules : List Rule) (f g : Form) → InnermostStep rules f g → Step rules f g
+
+-- what innermost steps end in has no step
+abbrev pub InnermostEndsInNormalForms : Type 0
+InnermostEndsInNormalForms = (rules : List Rule) (f : Form) (n : ℕ) (g : Form) → Innermost rules f n g → IsNormal rules g
 
 -- a worked example: two predicates with no arguments, and the rule  p --> q
 abbrev pub proposition : Symbol

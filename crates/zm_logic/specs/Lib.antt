@@ -6,6 +6,7 @@ pub mod Index
 pub mod Typing
 pub mod Problem
 pub mod Rewriting
+pub mod Innermost
 pub mod Calculus
 pub mod Same
 pub mod Truth

@@ -16,6 +16,10 @@ pub data Fit : List Opening → List Binder → Type 0 where
   a_term : {u : Term} {t : Ty} {os : List Opening} {bs : List Binder} → IsClosedTerm 0 u → Fit os bs
       → Fit (Opening.of_term u ∷ os) (Binder.of_term t ∷ bs)
 
+-- x is an instance of the rule's left side
+abbrev pub IsRedex : Rule → Side → Type 0
+IsRedex r x = (parts : List Opening) × Fit parts r.binders × (side_instance parts r.left ≡ x)
+
 -- x is an instance of the rule's left side, and y the same instance of its right side
 abbrev pub Rewrites : Rule → Side → Side → Type 0
 Rewrites r x y =
@@ -48,8 +52,9 @@ module _ (rules : List Rule) where
     quantified : {q : Quantifier} {t : Ty} {f g : Form} (n : ℕ) → IsFresh n (Form.quantified q t f)
         → IsFresh n (Form.quantified q t g) → Step (at_term f (Term.eps n t)) (at_term g (Term.eps n t))
         → Step (Form.quantified q t f) (Form.quantified q t g)
-    for_all_types : {f g : Form} (n : ℕ) → IsFresh n (Form.for_all_types f) → IsFresh n (Form.for_all_types g)
-        → Step (at_type f (Ty.param n)) (at_type g (Ty.param n)) → Step (Form.for_all_types f) (Form.for_all_types g)
+    quantified_types : {q : Quantifier} {f g : Form} (n : ℕ) → IsFresh n (Form.quantified_types q f)
+        → IsFresh n (Form.quantified_types q g) → Step (at_type f (Ty.param n)) (at_type g (Ty.param n))
+        → Step (Form.quantified_types q f) (Form.quantified_types q g)
 
 module _ (symbols : List Symbol) (rules : List Rule) where
   -- well typed formulas lead from f to g, each a step from the next or to it

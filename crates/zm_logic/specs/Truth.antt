@@ -35,7 +35,7 @@ IsQuantifierFree (Form.equal t a b) = ⊥
 IsQuantifierFree (Form.negation f) = IsQuantifierFree f
 IsQuantifierFree (Form.binary c f g) = IsQuantifierFree f × IsQuantifierFree g
 IsQuantifierFree (Form.quantified q t f) = ⊥
-IsQuantifierFree (Form.for_all_types f) = ⊥
+IsQuantifierFree (Form.quantified_types q f) = ⊥
 
 -- the truth table of a connective
 abbrev pub connected : Connective → Bool → Bool → Bool
@@ -53,7 +53,7 @@ truth_of v (Form.equal t a b) = false
 truth_of v (Form.negation f) = not (truth_of v f)
 truth_of v (Form.binary c f g) = connected c (truth_of v f) (truth_of v g)
 truth_of v (Form.quantified q t f) = false
-truth_of v (Form.for_all_types f) = false
+truth_of v (Form.quantified_types q f) = false
 
 -- the formula is true under the valuation
 abbrev pub IsTrueUnder : List Valued → Form → Type 0

@@ -69,7 +69,8 @@ step_of_form (form_layer.Imp f g) = tree.implies f g
 step_of_form (form_layer.Iff f g) = tree.iff f g
 step_of_form (form_layer.All t f) = tree.for_all (type_tree t) f
 step_of_form (form_layer.Ex t f) = tree.exists (type_tree t) f
-step_of_form (form_layer.AllType f) = tree.Form.for_all_types f
+step_of_form (form_layer.AllType f) = tree.for_all_types f
+step_of_form (form_layer.ExType f) = tree.exists_types f
 
 -- the tree of a formula
 abbrev pub form_tree : Form → tree.Form

@@ -3,6 +3,7 @@ ghost use Rattle.zm_logic.specs.View.{type_tree, term_tree, form_tree, types_tre
 ghost use Rattle.zm_logic.specs.Measure as measure;
 ghost use Rattle.zm_logic.specs.Opening as opening;
 
+use crate::results::pair;
 use crate::tree::{Form, Term, Ty};
 use sqlite_items::{Boxed, Items};
 use std::alloc::{AllocError, Global};
@@ -49,11 +50,11 @@ impl Term {
             Term::Eps(n, _) if *n == number => Term::Bound(at),
             Term::Eps(n, t) => Term::Eps(*n, t.close(alloc, at, number)?),
             Term::Meta(n, t) => Term::Meta(*n, t.close(alloc, at, number)?),
-            Term::App(f, ts, us) => Term::App(
-                *f,
-                close_types(alloc, ts, at, number)?,
-                close_terms(alloc, us, at, number)?,
-            ),
+            Term::App(f, ts, us) => {
+                let ts = close_types(alloc, ts, at, number);
+                let (ts, us) = pair(ts, close_terms(alloc, us, at, number))?;
+                Term::App(*f, ts, us)
+            }
         })
     }
 }
@@ -81,46 +82,65 @@ impl Form {
         requires { at + measure.depth (form_tree self.now) < 2 ^ 32 }
         ensures { IfOk result (λ f. form_tree f ≡ opening.close_at at number (form_tree self.now)) }
     {
-        Ok(match self {
-            Form::True => Form::True,
-            Form::False => Form::False,
-            Form::Atom(p, ts, us) => Form::Atom(
-                *p,
-                close_types(alloc, ts, at, number)?,
-                close_terms(alloc, us, at, number)?,
-            ),
-            Form::Equal(t, a, b) => Form::Equal(
-                t.close(alloc, at, number)?,
-                a.close(alloc, at, number)?,
-                b.close(alloc, at, number)?,
-            ),
-            Form::Not(f) => Form::Not(close_boxed(alloc, f, at, number)?),
-            Form::And(f, g) => Form::And(
-                close_boxed(alloc, f, at, number)?,
-                close_boxed(alloc, g, at, number)?,
-            ),
-            Form::Or(f, g) => Form::Or(
-                close_boxed(alloc, f, at, number)?,
-                close_boxed(alloc, g, at, number)?,
-            ),
-            Form::Imp(f, g) => Form::Imp(
-                close_boxed(alloc, f, at, number)?,
-                close_boxed(alloc, g, at, number)?,
-            ),
-            Form::Iff(f, g) => Form::Iff(
-                close_boxed(alloc, f, at, number)?,
-                close_boxed(alloc, g, at, number)?,
-            ),
-            Form::All(t, f) => Form::All(
-                t.close(alloc, at, number)?,
-                close_boxed(alloc, f, at + 1, number)?,
-            ),
-            Form::Ex(t, f) => Form::Ex(
-                t.close(alloc, at, number)?,
-                close_boxed(alloc, f, at + 1, number)?,
-            ),
-            Form::AllType(f) => Form::AllType(close_boxed(alloc, f, at + 1, number)?),
-        })
+        match self {
+            Form::True => Ok(Form::True),
+            Form::False => Ok(Form::False),
+            Form::Atom(p, ts, us) => {
+                let ts = close_types(alloc, ts, at, number);
+                let (ts, us) = pair(ts, close_terms(alloc, us, at, number))?;
+                Ok(Form::Atom(*p, ts, us))
+            }
+            Form::Equal(t, a, b) => {
+                let sides = pair(a.close(alloc, at, number), b.close(alloc, at, number));
+                let (t, (a, b)) = pair(t.close(alloc, at, number), sides)?;
+                Ok(Form::Equal(t, a, b))
+            }
+            Form::Not(f) => Ok(Form::Not(close_boxed(alloc, f, at, number)?)),
+            Form::And(f, g) => {
+                let (f, g) = pair(
+                    close_boxed(alloc, f, at, number),
+                    close_boxed(alloc, g, at, number),
+                )?;
+                Ok(Form::And(f, g))
+            }
+            Form::Or(f, g) => {
+                let (f, g) = pair(
+                    close_boxed(alloc, f, at, number),
+                    close_boxed(alloc, g, at, number),
+                )?;
+                Ok(Form::Or(f, g))
+            }
+            Form::Imp(f, g) => {
+                let (f, g) = pair(
+                    close_boxed(alloc, f, at, number),
+                    close_boxed(alloc, g, at, number),
+                )?;
+                Ok(Form::Imp(f, g))
+            }
+            Form::Iff(f, g) => {
+                let (f, g) = pair(
+                    close_boxed(alloc, f, at, number),
+                    close_boxed(alloc, g, at, number),
+                )?;
+                Ok(Form::Iff(f, g))
+            }
+            Form::All(t, f) => {
+                let (t, f) = pair(
+                    t.close(alloc, at, number),
+                    close_boxed(alloc, f, at + 1, number),
+                )?;
+                Ok(Form::All(t, f))
+            }
+            Form::Ex(t, f) => {
+                let (t, f) = pair(
+                    t.close(alloc, at, number),
+                    close_boxed(alloc, f, at + 1, number),
+                )?;
+                Ok(Form::Ex(t, f))
+            }
+            Form::AllType(f) => Ok(Form::AllType(close_boxed(alloc, f, at + 1, number)?)),
+            Form::ExType(f) => Ok(Form::ExType(close_boxed(alloc, f, at + 1, number)?)),
+        }
     }
 }
 

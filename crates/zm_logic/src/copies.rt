@@ -1,6 +1,7 @@
 ghost use Rattle.std.specs.Prelude.{◌≡◌, IfOk};
 
 use crate::problem::{Sense, Symbol};
+use crate::results::pair;
 use crate::rule::{Binder, Rule, Side};
 use crate::text::Text;
 use crate::tree::{Form, Term, Ty};
@@ -43,7 +44,10 @@ impl Term {
             Term::Bound(n) => Term::Bound(*n),
             Term::Eps(n, t) => Term::Eps(*n, t.copy(alloc)?),
             Term::Meta(n, t) => Term::Meta(*n, t.copy(alloc)?),
-            Term::App(f, ts, us) => Term::App(*f, copy_types(alloc, ts)?, copy_terms(alloc, us)?),
+            Term::App(f, ts, us) => {
+                let (ts, us) = pair(copy_types(alloc, ts), copy_terms(alloc, us))?;
+                Term::App(*f, ts, us)
+            }
         })
     }
 }
@@ -65,20 +69,47 @@ impl Form {
     pub fn copy(&self, alloc: Global) -> Result<Form, AllocError>
         ensures { IfOk result (λ f. f ≡ self.now) }
     {
-        Ok(match self {
-            Form::True => Form::True,
-            Form::False => Form::False,
-            Form::Atom(p, ts, us) => Form::Atom(*p, copy_types(alloc, ts)?, copy_terms(alloc, us)?),
-            Form::Equal(t, a, b) => Form::Equal(t.copy(alloc)?, a.copy(alloc)?, b.copy(alloc)?),
-            Form::Not(f) => Form::Not(copy_boxed(alloc, f)?),
-            Form::And(f, g) => Form::And(copy_boxed(alloc, f)?, copy_boxed(alloc, g)?),
-            Form::Or(f, g) => Form::Or(copy_boxed(alloc, f)?, copy_boxed(alloc, g)?),
-            Form::Imp(f, g) => Form::Imp(copy_boxed(alloc, f)?, copy_boxed(alloc, g)?),
-            Form::Iff(f, g) => Form::Iff(copy_boxed(alloc, f)?, copy_boxed(alloc, g)?),
-            Form::All(t, f) => Form::All(t.copy(alloc)?, copy_boxed(alloc, f)?),
-            Form::Ex(t, f) => Form::Ex(t.copy(alloc)?, copy_boxed(alloc, f)?),
-            Form::AllType(f) => Form::AllType(copy_boxed(alloc, f)?),
-        })
+        match self {
+            Form::True => Ok(Form::True),
+            Form::False => Ok(Form::False),
+            Form::Atom(p, ts, us) => {
+                let ts = copy_types(alloc, ts);
+                let (ts, us) = pair(ts, copy_terms(alloc, us))?;
+                Ok(Form::Atom(*p, ts, us))
+            }
+            Form::Equal(t, a, b) => {
+                let sides = pair(a.copy(alloc), b.copy(alloc));
+                let (t, (a, b)) = pair(t.copy(alloc), sides)?;
+                Ok(Form::Equal(t, a, b))
+            }
+            Form::Not(f) => Ok(Form::Not(copy_boxed(alloc, f)?)),
+            Form::And(f, g) => {
+                let (f, g) = pair(copy_boxed(alloc, f), copy_boxed(alloc, g))?;
+                Ok(Form::And(f, g))
+            }
+            Form::Or(f, g) => {
+                let (f, g) = pair(copy_boxed(alloc, f), copy_boxed(alloc, g))?;
+                Ok(Form::Or(f, g))
+            }
+            Form::Imp(f, g) => {
+                let (f, g) = pair(copy_boxed(alloc, f), copy_boxed(alloc, g))?;
+                Ok(Form::Imp(f, g))
+            }
+            Form::Iff(f, g) => {
+                let (f, g) = pair(copy_boxed(alloc, f), copy_boxed(alloc, g))?;
+                Ok(Form::Iff(f, g))
+            }
+            Form::All(t, f) => {
+                let (t, f) = pair(t.copy(alloc), copy_boxed(alloc, f))?;
+                Ok(Form::All(t, f))
+            }
+            Form::Ex(t, f) => {
+                let (t, f) = pair(t.copy(alloc), copy_boxed(alloc, f))?;
+                Ok(Form::Ex(t, f))
+            }
+            Form::AllType(f) => Ok(Form::AllType(copy_boxed(alloc, f)?)),
+            Form::ExType(f) => Ok(Form::ExType(copy_boxed(alloc, f)?)),
+        }
     }
 }
 
@@ -116,11 +147,14 @@ impl Symbol {
     pub fn copy(&self, alloc: Global) -> Result<Symbol, AllocError>
         ensures { IfOk result (λ s. s ≡ self.now) }
     {
+        let types = self.types;
+        let parts = pair(copy_types(alloc, &self.arguments), self.sense.copy(alloc));
+        let (name, (arguments, sense)) = pair(self.name.copy(alloc), parts)?;
         Ok(Symbol {
-            name: self.name.copy(alloc)?,
-            types: self.types,
-            arguments: copy_types(alloc, &self.arguments)?,
-            sense: self.sense.copy(alloc)?,
+            name,
+            types,
+            arguments,
+            sense,
         })
     }
 }
@@ -175,10 +209,12 @@ impl Rule {
     pub fn copy(&self, alloc: Global) -> Result<Rule, AllocError>
         ensures { IfOk result (λ r. r ≡ self.now) }
     {
+        let sides = pair(self.left.copy(alloc), self.right.copy(alloc));
+        let (binders, (left, right)) = pair(copy_binders(alloc, &self.binders), sides)?;
         Ok(Rule {
-            binders: copy_binders(alloc, &self.binders)?,
-            left: self.left.copy(alloc)?,
-            right: self.right.copy(alloc)?,
+            binders,
+            left,
+            right,
         })
     }
 }

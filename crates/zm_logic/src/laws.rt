@@ -4,8 +4,10 @@ ghost use Rattle.zm_logic.specs.Laws.{SameTypesAreEqual, SameTermsAreEqual, Same
 ghost use Rattle.zm_logic.specs.Laws.{HasIsMembership, ClosingUndoesOpeningAtTerm, ClosingUndoesOpeningAtType};
 ghost use Rattle.zm_logic.specs.Laws.{InstancesAreWellTyped, TypeInstancesAreWellTyped, WellTypedFormsAreClosed};
 ghost use Rattle.zm_logic.specs.Laws.{WeakeningIsAdmissible, ContradictionsAreRefuted, PeirceIsDerived};
-ghost use Rattle.zm_logic.specs.Laws.{DrinkerIsDerived, SymmetryIsDerived, TransitivityIsDerived};
+ghost use Rattle.zm_logic.specs.Laws.{DrinkerIsDerived, DrinkerOverTypesIsDerived, TypeQuantifiersAreDual};
+ghost use Rattle.zm_logic.specs.Laws.{SymmetryIsDerived, TransitivityIsDerived};
 ghost use Rattle.zm_logic.specs.Laws.{CongruenceWithoutRulesIsEquality, CongruenceIsSymmetric, CongruenceIsTransitive};
+ghost use Rattle.zm_logic.specs.Laws.{InnermostStepsAreSteps, InnermostEndsInNormalForms};
 ghost use Rattle.zm_logic.specs.Laws.{RefutedFormsAreNotAllTrue, RefutedFormsAreNotAllTrueInTerms, NothingIsNotRefuted};
 ghost use Rattle.zm_logic.specs.Laws.{FalsifiedProblemsAreNotRefuted, AtomsAreNotRefuted, RulesMakeCongruent, RulesRefute};
 
@@ -87,6 +89,18 @@ pub fn drinker_is_derived()
     ensures { DrinkerIsDerived }
 {}
 
+/// The drinker's formula over types has a derivation.
+#[tactic(auto, using(crate::proofs::Examples::drinkers_over_types))]
+pub fn drinker_over_types_is_derived()
+    ensures { DrinkerOverTypesIsDerived }
+{}
+
+/// That a formula holds at some type is derived to be equivalent to its denial not holding at all types.
+#[tactic(auto, using(crate::proofs::Examples::type_quantifiers_dual))]
+pub fn type_quantifiers_are_dual()
+    ensures { TypeQuantifiersAreDual }
+{}
+
 /// Equality is symmetric.
 #[tactic(auto, using(crate::proofs::Examples::symmetry))]
 pub fn symmetry_is_derived()
@@ -115,6 +129,18 @@ pub fn congruence_is_symmetric()
 #[tactic(auto, using(crate::proofs::Identity::transitive))]
 pub fn congruence_is_transitive()
     ensures { CongruenceIsTransitive }
+{}
+
+/// A leftmost innermost step is a step.
+#[tactic(auto, using(crate::proofs::Innermost::innermost_is_a_step))]
+pub fn innermost_steps_are_steps()
+    ensures { InnermostStepsAreSteps }
+{}
+
+/// What innermost steps end in has no step.
+#[tactic(auto, using(crate::proofs::Innermost::innermost_ends))]
+pub fn innermost_ends_in_normal_forms()
+    ensures { InnermostEndsInNormalForms }
 {}
 
 /// Soundness for truth tables: no valuation makes all formulas of a refuted sequent true, where there are no rules, no quantifiers and no equalities.

@@ -8,6 +8,7 @@ pub mod laws;
 mod measures;
 mod opening;
 mod problem;
+mod results;
 mod rule;
 mod sameness;
 mod text;

@@ -89,7 +89,7 @@ impl Form {
             Form::True | Form::False => 0,
             Form::Atom(_, ts, us) => types_size(ts).saturating_add(terms_size(us)),
             Form::Equal(t, a, b) => t.size().saturating_add(a.size()).saturating_add(b.size()),
-            Form::Not(f) | Form::AllType(f) => f.get().size(),
+            Form::Not(f) | Form::AllType(f) | Form::ExType(f) => f.get().size(),
             Form::And(f, g) | Form::Or(f, g) | Form::Imp(f, g) | Form::Iff(f, g) => {
                 f.get().size().saturating_add(g.get().size())
             }
@@ -139,7 +139,7 @@ impl Form {
             Form::True | Form::False => 0,
             Form::Atom(_, ts, us) => greater(types_depth(ts), terms_depth(us)),
             Form::Equal(t, a, b) => greater(t.depth(), greater(a.depth(), b.depth())),
-            Form::Not(f) | Form::AllType(f) => f.get().depth(),
+            Form::Not(f) | Form::AllType(f) | Form::ExType(f) => f.get().depth(),
             Form::And(f, g) | Form::Or(f, g) | Form::Imp(f, g) | Form::Iff(f, g) => {
                 greater(f.get().depth(), g.get().depth())
             }

@@ -2,6 +2,7 @@ ghost use Rattle.std.specs.Prelude.{◌≡◌, ◌+◌, IfOk};
 ghost use Rattle.zm_logic.specs.View.{type_tree, term_tree, form_tree, types_tree, terms_tree, opening_tree};
 ghost use Rattle.zm_logic.specs.Opening as opening;
 
+use crate::results::pair;
 use crate::tree::{Form, Term, Ty};
 use sqlite_items::{Boxed, Items};
 use std::alloc::{AllocError, Global};
@@ -59,11 +60,11 @@ impl Term {
             },
             Term::Eps(n, t) => Term::Eps(*n, t.open(alloc, at, with)?),
             Term::Meta(n, t) => Term::Meta(*n, t.open(alloc, at, with)?),
-            Term::App(f, ts, us) => Term::App(
-                *f,
-                open_types(alloc, ts, at, with)?,
-                open_terms(alloc, us, at, with)?,
-            ),
+            Term::App(f, ts, us) => {
+                let ts = open_types(alloc, ts, at, with);
+                let (ts, us) = pair(ts, open_terms(alloc, us, at, with))?;
+                Term::App(*f, ts, us)
+            }
         })
     }
 }
@@ -90,40 +91,59 @@ impl Form {
     fn open(&self, alloc: Global, at: u64, with: Opening) -> Result<Form, AllocError>
         ensures { IfOk result (λ f. form_tree f ≡ opening.open_at at (opening_tree with.entry) (form_tree self.now)) }
     {
-        Ok(match self {
-            Form::True => Form::True,
-            Form::False => Form::False,
-            Form::Atom(p, ts, us) => Form::Atom(
-                *p,
-                open_types(alloc, ts, at, with)?,
-                open_terms(alloc, us, at, with)?,
-            ),
-            Form::Equal(t, a, b) => Form::Equal(
-                t.open(alloc, at, with)?,
-                a.open(alloc, at, with)?,
-                b.open(alloc, at, with)?,
-            ),
-            Form::Not(f) => Form::Not(open_boxed(alloc, f, at, with)?),
-            Form::And(f, g) => Form::And(
-                open_boxed(alloc, f, at, with)?,
-                open_boxed(alloc, g, at, with)?,
-            ),
-            Form::Or(f, g) => Form::Or(
-                open_boxed(alloc, f, at, with)?,
-                open_boxed(alloc, g, at, with)?,
-            ),
-            Form::Imp(f, g) => Form::Imp(
-                open_boxed(alloc, f, at, with)?,
-                open_boxed(alloc, g, at, with)?,
-            ),
-            Form::Iff(f, g) => Form::Iff(
-                open_boxed(alloc, f, at, with)?,
-                open_boxed(alloc, g, at, with)?,
-            ),
-            Form::All(t, f) => Form::All(t.open(alloc, at, with)?, open_body(alloc, f, at, with)?),
-            Form::Ex(t, f) => Form::Ex(t.open(alloc, at, with)?, open_body(alloc, f, at, with)?),
-            Form::AllType(f) => Form::AllType(open_body(alloc, f, at, with)?),
-        })
+        match self {
+            Form::True => Ok(Form::True),
+            Form::False => Ok(Form::False),
+            Form::Atom(p, ts, us) => {
+                let ts = open_types(alloc, ts, at, with);
+                let (ts, us) = pair(ts, open_terms(alloc, us, at, with))?;
+                Ok(Form::Atom(*p, ts, us))
+            }
+            Form::Equal(t, a, b) => {
+                let sides = pair(a.open(alloc, at, with), b.open(alloc, at, with));
+                let (t, (a, b)) = pair(t.open(alloc, at, with), sides)?;
+                Ok(Form::Equal(t, a, b))
+            }
+            Form::Not(f) => Ok(Form::Not(open_boxed(alloc, f, at, with)?)),
+            Form::And(f, g) => {
+                let (f, g) = pair(
+                    open_boxed(alloc, f, at, with),
+                    open_boxed(alloc, g, at, with),
+                )?;
+                Ok(Form::And(f, g))
+            }
+            Form::Or(f, g) => {
+                let (f, g) = pair(
+                    open_boxed(alloc, f, at, with),
+                    open_boxed(alloc, g, at, with),
+                )?;
+                Ok(Form::Or(f, g))
+            }
+            Form::Imp(f, g) => {
+                let (f, g) = pair(
+                    open_boxed(alloc, f, at, with),
+                    open_boxed(alloc, g, at, with),
+                )?;
+                Ok(Form::Imp(f, g))
+            }
+            Form::Iff(f, g) => {
+                let (f, g) = pair(
+                    open_boxed(alloc, f, at, with),
+                    open_boxed(alloc, g, at, with),
+                )?;
+                Ok(Form::Iff(f, g))
+            }
+            Form::All(t, f) => {
+                let (t, f) = pair(t.open(alloc, at, with), open_body(alloc, f, at, with))?;
+                Ok(Form::All(t, f))
+            }
+            Form::Ex(t, f) => {
+                let (t, f) = pair(t.open(alloc, at, with), open_body(alloc, f, at, with))?;
+                Ok(Form::Ex(t, f))
+            }
+            Form::AllType(f) => Ok(Form::AllType(open_body(alloc, f, at, with)?)),
+            Form::ExType(f) => Ok(Form::ExType(open_body(alloc, f, at, with)?)),
+        }
     }
 }
 

@@ -87,9 +87,9 @@ impl Form {
                 p.0 == q.0 && same_types(ts, us) && same_terms(xs, ys)
             }
             (Form::Equal(t, a, b), Form::Equal(u, c, d)) => t.same(u) && a.same(c) && b.same(d),
-            (Form::Not(f), Form::Not(g)) | (Form::AllType(f), Form::AllType(g)) => {
-                f.get().same(g.get())
-            }
+            (Form::Not(f), Form::Not(g))
+            | (Form::AllType(f), Form::AllType(g))
+            | (Form::ExType(f), Form::ExType(g)) => same_boxed(f, g),
             (Form::And(f, a), Form::And(g, b))
             | (Form::Or(f, a), Form::Or(g, b))
             | (Form::Imp(f, a), Form::Imp(g, b))

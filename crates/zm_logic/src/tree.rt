@@ -58,4 +58,6 @@ pub enum Form {
     Ex(Ty, Boxed<Form>),
     /// For all types.
     AllType(Boxed<Form>),
+    /// There is a type.
+    ExType(Boxed<Form>),
 }

@@ -1,43 +1,36 @@
-use Rattle.std.proofs.Common.{Err, subst}
-use Rattle.zenon_modulo.specs.Report.{IsFileRead}
-use Rattle.zenon_modulo.specs.declared.outcome.Outcome.TheVariants.{LibraryFault, Memory}
-use Rattle.zenon_modulo.specs.declared.outcome.InputRefusal.TheVariants.{Gather, TooLarge}
-use Rattle.tptp_include.specs.declared.refusal.GatherRefusal.TheVariants as gather
-use Rattle.zenon_modulo.specs.Answer.{call_of}
-use Rattle.zenon_modulo.proofs.Answered.{plain_text, refused_text}
-use Rattle.zenon_modulo.proofs.CallsAnswered.{file_answered, file_text, missing_answered}
+use Rattle.std.proofs.Common.{Err, subst, sym, ap, ◌∙◌}
+use Rattle.zm_base.specs.Outside.{Rose}
+use Rattle.zenon_modulo.specs.Stages.{IsFileRead}
+use Rattle.zenon_modulo.proofs.Calls.{rose_since, file_has_read, missing_given, file_too_large, file_fault, file_memory}
 use Rattle.zenon_modulo.proofs.answer.answer_file.Goals as goal
 
 pub returns-in-Ok-clause-answered : goal.returns-in-Ok-clause-answered
-returns-in-Ok-clause-answered g c = λ words left faults command.
-    file_answered words left faults (g.L.Library.files c.args.library.now) (g.L.Library.faults c.args.library.now) (g.L.Library.faults c.answer_text.new.library) c.args.name.now c.args.steps command
-    (g.L.Library.faults c.read_file.new.library) (g.L.Library.files c.read_file.new.library) c.deref.result.now c.in-Ok.bytes.items c.answer_text.result.outcome c.answer_text.result.text.items
-    c.deref.ensures.value c.in-Ok.ensures.files c.in-Ok.ensures.read.0 c.in-Ok.ensures.read.1 c.answer_text.ensures.answer c.in-Ok.ensures.later c.answer_text.ensures.later c.answer_text.ensures.library
-
-pub returns-in-Ok-clause-text : goal.returns-in-Ok-clause-text
-returns-in-Ok-clause-text g c = λ words left faults command.
-    file_text words left faults (g.L.Library.files c.args.library.now) (g.L.Library.faults c.args.library.now) (g.L.Library.faults c.answer_text.new.library) c.args.name.now c.args.steps command
-    (g.L.Library.faults c.read_file.new.library) (g.L.Library.files c.read_file.new.library) c.deref.result.now c.in-Ok.bytes.items c.answer_text.result.outcome c.answer_text.result.text.items
-    c.deref.ensures.value c.in-Ok.ensures.files c.in-Ok.ensures.read.0 c.in-Ok.ensures.read.1 c.answer_text.ensures.answer c.in-Ok.ensures.later c.answer_text.ensures.later
+returns-in-Ok-clause-answered g c = λ call command left files before now.
+    c.answer_text.ensures.answer call
+    (file_has_read call c.args.name.now c.args.steps command left c.deref.result.now c.in-Ok.bytes.items (g.L.Library.files c.args.library.now) c.deref.ensures.value files
+    c.in-Ok.ensures.read.0 c.in-Ok.ensures.read.1) (files ∙ sym c.in-Ok.ensures.files)
+    (λ e. rose_since call.library_faults call.library_faults_now (g.L.Library.faults c.args.library.now) (g.L.Library.faults c.read_file.new.library) (g.L.Library.faults c.answer_text.new.library)
+    before now c.in-Ok.ensures.later (c.answer_text.ensures.library e))
 
 pub returns-in-Err-Missing-clause-answered : goal.returns-in-Err-Missing-clause-answered
-returns-in-Err-Missing-clause-answered g c = λ words left faults command.
-    missing_answered words left faults (g.L.Library.files c.args.library.now) (g.L.Library.faults c.args.library.now) (g.L.Library.faults c.read_file.new.library) c.args.name.now c.args.steps command
-    c.missing.result.outcome
-    (subst (λ e. IsFileRead (g.L.Library.files c.args.library.now) c.args.name.now (Err e)) c.in-Err-Missing.field-0-is c.in-Err-Missing.ensures.read) c.in-Err-Missing.ensures.later c.missing.ensures.outcome
+returns-in-Err-Missing-clause-answered g c = λ call command left files before now.
+    missing_given call c.args.name.now c.args.steps command left c.missing.result.outcome c.missing.result.text.items (g.L.Library.files c.args.library.now) files
+    (subst (λ e. IsFileRead (g.L.Library.files c.args.library.now) c.args.name.now (Err e)) c.in-Err-Missing.field-0-is c.in-Err-Missing.ensures.read)
+    c.missing.ensures.outcome c.missing.ensures.text
 
-pub returns-in-Err-Missing-clause-text : goal.returns-in-Err-Missing-clause-text
-returns-in-Err-Missing-clause-text g c = λ words left faults command.
-    refused_text _ (Gather (gather.Missing c.args.name.now)) c.missing.result.outcome c.missing.result.text.items c.missing.ensures.outcome c.missing.ensures.text
+pub returns-in-Err-TooLarge-clause-answered : goal.returns-in-Err-TooLarge-clause-answered
+returns-in-Err-TooLarge-clause-answered g c = λ call command left files before now.
+    file_too_large call c.args.name.now c.args.steps command left c.refused.result.outcome c.refused.result.text.items (g.L.Library.files c.args.library.now) files
+    (subst (λ e. IsFileRead (g.L.Library.files c.args.library.now) c.args.name.now (Err e)) c.in-Err-TooLarge.field-0-is c.in-Err-TooLarge.ensures.read)
+    c.refused.ensures.outcome c.refused.ensures.text
 
-pub returns-in-Err-TooLarge-clause-text : goal.returns-in-Err-TooLarge-clause-text
-returns-in-Err-TooLarge-clause-text g c = λ words left faults command.
-    refused_text _ TooLarge c.refused.result.outcome c.refused.result.text.items c.refused.ensures.outcome c.refused.ensures.text
+pub returns-in-Err-Failed-clause-answered : goal.returns-in-Err-Failed-clause-answered
+returns-in-Err-Failed-clause-answered g c = λ call command left files before now.
+    file_fault call c.args.name.now c.args.steps command left c.plain.result.outcome c.plain.result.text.items c.plain.ensures.outcome c.plain.ensures.text
+    (subst (λ n. Rose n call.library_faults_now) (sym before) (subst (Rose (g.L.Library.faults c.args.library.now)) (sym now)
+    (c.in-Err-Failed.ensures.failed (ap Err c.in-Err-Failed.field-0-is))))
 
-pub returns-in-Err-Failed-clause-text : goal.returns-in-Err-Failed-clause-text
-returns-in-Err-Failed-clause-text g c = λ words left faults command.
-    plain_text _ c.plain.result.outcome LibraryFault c.plain.result.text.items c.plain.ensures.outcome c.plain.ensures.text tt
-
-pub returns-in-Err-Memory-clause-text : goal.returns-in-Err-Memory-clause-text
-returns-in-Err-Memory-clause-text g c = λ words left faults command.
-    plain_text _ c.plain-in-Err-Memory.result.outcome Memory c.plain-in-Err-Memory.result.text.items c.plain-in-Err-Memory.ensures.outcome c.plain-in-Err-Memory.ensures.text tt
+pub returns-in-Err-Memory-clause-answered : goal.returns-in-Err-Memory-clause-answered
+returns-in-Err-Memory-clause-answered g c = λ call command left files before now.
+    file_memory call c.args.name.now c.args.steps command left c.plain-in-Err-Memory.result.outcome c.plain-in-Err-Memory.result.text.items
+    c.plain-in-Err-Memory.ensures.outcome c.plain-in-Err-Memory.ensures.text

@@ -1,4 +1,4 @@
-use Rattle.std.proofs.Common.{rules, ◌≡◌, ◌∙◌, map, string_bytes}
+use Rattle.std.proofs.Common.{◌∙◌, map, string_bytes}
 use Rattle.zenon_modulo.proofs.ClapOptions.{taken_is, text_is}
 use Rattle.zenon_modulo.proofs.options.given_steps.Goals as goal
 

@@ -1,5 +1,5 @@
 use Rattle.std.proofs.Common.{rules}
-use Rattle.zenon_modulo.proofs.Commands.{no_operand_of, source_is, file_is}
+use Rattle.zenon_modulo.proofs.Commands.{source_is, file_is}
 use Rattle.zenon_modulo.proofs.words.operand_of.Goals as goal
 
 pub returns-then-eq : goal.returns-then-eq

@@ -15,5 +15,5 @@ decreases-binary_tree l = 2 * max (depth (form_of l.self.now l.f)) (depth (form_
 abbrev pub decreases-quantified_tree : goal.decreases-quantified_tree
 decreases-quantified_tree l = 2 * depth (form_of l.self.now l.f) + 1
 
-abbrev pub decreases-all_type_tree : goal.decreases-all_type_tree
-decreases-all_type_tree l = 2 * depth (form_of l.self.now l.f) + 1
+abbrev pub decreases-quantified_types_tree : goal.decreases-quantified_types_tree
+decreases-quantified_types_tree l = 2 * depth (form_of l.self.now l.f) + 1

@@ -48,12 +48,12 @@ change_quantified-returns-clause-knows t c =
     let knows = knows_stays c.change_body.new.self c.put_quantified.new.self c.put_quantified.ensures.kept c.args.change.now part c.change_body.new.memo changed.knows in
     on_ok knows c.put_quantified.result
 
-pub change_all_type-returns-clause-knows : goal.change_all_type-returns-clause-knows
-change_all_type-returns-clause-knows t c =
+pub change_quantified_types-returns-clause-knows : goal.change_quantified_types-returns-clause-knows
+change_quantified_types-returns-clause-knows t c =
     let changed = c.in_ok-f.ensures in
     let part = change_stays c.args.self.now c.change_form.new.self changed.kept c.args.change.now c.requires.part in
-    let knows = knows_stays c.change_form.new.self c.put_all_type.new.self c.put_all_type.ensures.kept c.args.change.now part c.change_form.new.memo changed.knows in
-    on_ok knows c.put_all_type.result
+    let knows = knows_stays c.change_form.new.self c.put_quantified_types.new.self c.put_quantified_types.ensures.kept c.args.change.now part c.change_form.new.memo changed.knows in
+    on_ok knows c.put_quantified_types.result
 
 pub change_two-change_form-requires-2 : goal.change_two-change_form-requires-2
 change_two-change_form-requires-2 t c =
@@ -143,6 +143,6 @@ pub change_quantified-returns-clause-kept : goal.change_quantified-returns-claus
 change_quantified-returns-clause-kept t c =
     extends_more c.args.self.now c.change_body.new.self c.put_quantified.new.self c.in_ok-ty.ensures.kept c.put_quantified.ensures.kept
 
-pub change_all_type-returns-clause-kept : goal.change_all_type-returns-clause-kept
-change_all_type-returns-clause-kept t c =
-    extends_more c.args.self.now c.change_form.new.self c.put_all_type.new.self c.in_ok-f.ensures.kept c.put_all_type.ensures.kept
+pub change_quantified_types-returns-clause-kept : goal.change_quantified_types-returns-clause-kept
+change_quantified_types-returns-clause-kept t c =
+    extends_more c.args.self.now c.change_form.new.self c.put_quantified_types.new.self c.in_ok-f.ensures.kept c.put_quantified_types.ensures.kept

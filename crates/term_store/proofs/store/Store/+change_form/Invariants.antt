@@ -18,8 +18,8 @@ decreases-change_binary l = 5 * (1 + max (depth (form_of l.self.now l.f)) (depth
 abbrev pub decreases-change_quantified : goal.decreases-change_quantified
 decreases-change_quantified l = 5 * (1 + depth (form_of l.self.now l.f)) + 2
 
-abbrev pub decreases-change_all_type : goal.decreases-change_all_type
-decreases-change_all_type l = 5 * (1 + depth (form_of l.self.now l.f)) + 2
+abbrev pub decreases-change_quantified_types : goal.decreases-change_quantified_types
+decreases-change_quantified_types l = 5 * (1 + depth (form_of l.self.now l.f)) + 2
 
 abbrev pub decreases-change_two : goal.decreases-change_two
 decreases-change_two l = 5 * (1 + max (depth (form_of l.self.now l.f)) (depth (form_of l.self.now l.g)))

@@ -13,8 +13,8 @@ decreases-enter_binary l = 3 * l.room + 2
 abbrev pub decreases-enter_quantified : goal.decreases-enter_quantified
 decreases-enter_quantified l = 3 * l.room + 2
 
-abbrev pub decreases-enter_all_type : goal.decreases-enter_all_type
-decreases-enter_all_type l = 3 * l.room + 2
+abbrev pub decreases-enter_quantified_types : goal.decreases-enter_quantified_types
+decreases-enter_quantified_types l = 3 * l.room + 2
 
 abbrev pub decreases-enter_two : goal.decreases-enter_two
 decreases-enter_two l = 3 * l.room + 1

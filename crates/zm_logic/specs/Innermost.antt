@@ -1,14 +1,10 @@
--- Leftmost innermost steps, and formulas without a step.
+-- Leftmost innermost steps, and normal forms with the number of steps that lead to them.
 -- A place under a binder is opened with a parameter whose number is fresh on both sides of the step.
-use Rattle.std.specs.Prelude.{ℕ, ◌≡◌, List, ◌∷◌}
-use Rattle.zm_logic.specs.Tree.{Ty, Tys, Term, Terms, Form, Connective, Quantifier, Rule, Side, Opening}
-use Rattle.zm_logic.specs.Opening.{side_instance, at_term, at_type}
+use Rattle.std.specs.Prelude.{ℕ, suc, List, ◌∷◌}
+use Rattle.zm_logic.specs.Tree.{Ty, Tys, Term, Terms, Form, Connective, Quantifier, Rule, Side}
+use Rattle.zm_logic.specs.Opening.{at_term, at_type}
 use Rattle.zm_logic.specs.Parameter.{IsFresh}
-use Rattle.zm_logic.specs.Rewriting.{Fit, Rewrites, TermStep, TermsStep, Step}
-
--- x is an instance of the rule's left side
-abbrev pub IsRedex : Rule → Side → Type 0
-IsRedex r x = (parts : List Opening) × Fit parts r.binders × (side_instance parts r.left ≡ x)
+use Rattle.zm_logic.specs.Rewriting.{IsRedex, Rewrites, TermStep, TermsStep, Step}
 
 -- the first rule that has x as a redex rewrites it to y
 pub data FirstRewrites : List Rule → Side → Side → Type 0 where
@@ -48,7 +44,7 @@ module _ (rules : List Rule) where
   HasNormalParts (Form.negation f) = IsNormal f
   HasNormalParts (Form.binary c f g) = IsNormal f × IsNormal g
   HasNormalParts (Form.quantified q t f) = (n : ℕ) → IsFresh n (Form.quantified q t f) → IsNormal (at_term f (Term.eps n t))
-  HasNormalParts (Form.for_all_types f) = (n : ℕ) → IsFresh n (Form.for_all_types f) → IsNormal (at_type f (Ty.param n))
+  HasNormalParts (Form.quantified_types q f) = (n : ℕ) → IsFresh n (Form.quantified_types q f) → IsNormal (at_type f (Ty.param n))
 
   -- the step at the leftmost place of a formula that has no redex inside it
   pub data InnermostStep : Form → Form → Type 0 where
@@ -66,6 +62,12 @@ module _ (rules : List Rule) where
     quantified : {q : Quantifier} {t : Ty} {f g : Form} (n : ℕ) → IsFresh n (Form.quantified q t f)
         → IsFresh n (Form.quantified q t g) → InnermostStep (at_term f (Term.eps n t)) (at_term g (Term.eps n t))
         → InnermostStep (Form.quantified q t f) (Form.quantified q t g)
-    for_all_types : {f g : Form} (n : ℕ) → IsFresh n (Form.for_all_types f) → IsFresh n (Form.for_all_types g)
+    quantified_types : {q : Quantifier} {f g : Form} (n : ℕ) → IsFresh n (Form.quantified_types q f)
+        → IsFresh n (Form.quantified_types q g)
         → InnermostStep (at_type f (Ty.param n)) (at_type g (Ty.param n))
-        → InnermostStep (Form.for_all_types f) (Form.for_all_types g)
+        → InnermostStep (Form.quantified_types q f) (Form.quantified_types q g)
+
+  -- f reaches g, which has no step, by n of these steps
+  pub data Innermost : Form → ℕ → Form → Type 0 where
+    done : {f : Form} → IsNormal f → Innermost f 0 f
+    step : {f g h : Form} {n : ℕ} → InnermostStep f g → Innermost g n h → Innermost f (suc n) h
