@@ -1,4 +1,5 @@
 mod copies;
+mod lambda_pi;
 mod libraries;
 mod measures;
 mod needs;

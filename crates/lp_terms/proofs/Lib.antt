@@ -1,4 +1,5 @@
 pub mod Terms
+pub mod Sames
 pub mod Substitution
 pub mod Binders
 pub mod PlainReadings

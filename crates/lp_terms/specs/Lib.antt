@@ -8,6 +8,7 @@ pub mod WellFormed
 pub mod Names
 pub mod File
 pub mod Change
+pub mod Same
 pub mod View
 pub mod Worked
 pub mod Laws

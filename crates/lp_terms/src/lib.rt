@@ -6,6 +6,7 @@ mod changing;
 mod copying;
 mod file;
 pub mod laws;
+mod sameness;
 mod term;
 mod text;
 

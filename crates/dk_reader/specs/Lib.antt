@@ -1,0 +1,14 @@
+pub mod Seen
+pub mod Pieces
+pub mod Machine
+pub mod Binders
+pub mod Spelled
+pub mod Marks
+pub mod Parts
+pub mod Entries
+pub mod Before
+pub mod Proper
+pub mod Told
+pub mod Advance
+pub mod Judged
+pub mod Occurring
