@@ -1,0 +1,6 @@
+pub mod Logic
+mod Added
+pub mod PreludeIsWellFormed
+pub mod PreludeIsFile
+pub mod Rules
+pub mod MoreRules

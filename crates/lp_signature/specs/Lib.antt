@@ -1,0 +1,4 @@
+pub mod Prelude
+pub mod Eliminations
+pub mod ProofTerms
+pub mod Laws
