@@ -16,8 +16,8 @@ fn size(file: &DkFile) -> u64 {
     sink.count()
 }
 
-// The printed file.
-fn printed(alloc: Global, file: &DkFile) -> Result<Vec<u8>, AllocError> {
+/// The printed file.
+pub fn printed(alloc: Global, file: &DkFile) -> Result<Vec<u8>, AllocError> {
     let room = size(file) as usize;
     let mut sink = MemSink::new(alloc, room, 4096, Vec::new(alloc))?;
     match print(file, &mut sink) {

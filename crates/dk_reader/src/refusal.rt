@@ -21,7 +21,8 @@ pub enum Form {
 pub enum DkReadRefusal {
     /// No entry begins there.
     Syntax { at: usize },
-    /// A form that isn't read: the place of the token, where it is one token.
+    /// A form that isn't read: the place of the token for a command, a name in `{|` and a wildcard, and that of the entry for
+    /// a declared name that is `x` and digits and for a rule.
     Unsupported { form: Form, at: usize },
     /// A term of the entry nests 8,001 deep or deeper.
     TooDeep { at: usize },

@@ -40,7 +40,7 @@ pub data Answer : Type 0 where
   accepted : (entry : Entry) → Answer
   refused : (refusal : Refusal) → Answer
 
--- the first token that the profile leaves out
+-- the first token that is left out
 abbrev pub first_foreign : List Token → Option Refusal
 first_foreign [] = None
 first_foreign (foreign form left ∷ tokens) = Some (unsupported form left)

@@ -3,13 +3,13 @@ use Rattle.std.specs.Prelude.{◌≡◌, ℕ, Bool, true, false, cond, ◌||◌,
 use Rattle.std.specs.Str.{bytes_eq}
 use Rattle.lp_terms.specs.Names.{is_start, is_inside}
 
--- what the profile leaves out
+-- what this reader leaves out
 pub data Foreign : Type 0 where
   command : Foreign
   quoted : Foreign
   pattern : Foreign
 
--- An identifier, and a token that the profile leaves out, carry the number of bytes from their first one to the end of the text.
+-- An identifier, and a token that is left out, carry the number of bytes from their first one to the end of the text.
 pub data Token : Type 0 where
   id : (text : List ℕ) (left : ℕ) → Token
   type_word : Token

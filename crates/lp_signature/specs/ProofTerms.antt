@@ -1,4 +1,4 @@
--- The proof term of each rule. Bound variables are written as free ones with the numbers from d on, and closed over.
+-- The proof term of each rule but the two for equal arguments. Bound variables are written as free ones with the numbers from d on, and closed over.
 use Rattle.std.specs.Prelude.{ℕ, suc, codes}
 use Rattle.lp_terms.specs.Term.{Lp, closed}
 use Rattle.lp_signature.specs.Prelude.{prop, prf, term, falsity, not_of, imp_of, eq_of}
@@ -82,11 +82,11 @@ reflexive a t = Lp.abs (Lp.prod (term a) prop) (Lp.abs (prf (Lp.app (Lp.index 0)
 abbrev pub refl_term : Lp → Lp → Lp → Lp
 refl_term h a t = Lp.app h (reflexive a t)
 
--- the predicate is over the domain a; body is its body, with the index 0 for the variable
+-- the predicate f is over the domain a
 abbrev pub not_forall_term : ℕ → Lp → Lp → Lp → Lp → Lp
 not_forall_term d h a f r = Lp.app h (bind d a (nn (suc d) f r))
 
--- f is the body at u
+-- the predicate is over the domain a; body is its body, with the index 0 for the variable, and f is the body at u
 abbrev pub not_exists_term : ℕ → Lp → Lp → Lp → Lp → Lp → Lp → Lp
 not_exists_term d h a body u f r =
     Lp.app (bind d (prf (not_of f)) r)
