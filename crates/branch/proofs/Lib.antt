@@ -68,3 +68,9 @@ pub mod Ending
 pub mod LeafListed
 pub mod SameState
 pub mod Refuted
+pub mod Stages
+pub mod Skipped
+pub mod Opposed
+pub mod Found
+pub mod Noted
+pub mod Behind
