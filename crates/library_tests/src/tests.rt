@@ -9,6 +9,7 @@ mod openings;
 mod problems;
 mod selections;
 mod sharing;
+mod signatures;
 mod stored;
 mod streams;
 mod trees;

@@ -1,4 +1,11 @@
 pub mod Prelude
 pub mod Eliminations
 pub mod ProofTerms
+pub mod Names
+pub mod Translation
+pub mod Problem
+pub mod Scoped
+pub mod Declarable
+pub mod View
 pub mod Laws
+pub mod WellFormedLaws

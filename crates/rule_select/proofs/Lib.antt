@@ -4,7 +4,7 @@ mod Beside
 mod Collected
 mod AtParameters
 mod TypedRule
-mod Selected
+pub mod Selected
 mod Sorted
 mod Numbers
 mod Worked
