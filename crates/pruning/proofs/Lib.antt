@@ -1,0 +1,10 @@
+pub mod Members
+pub mod Ids
+pub mod Closings
+pub mod Applied
+pub mod Converted
+pub mod Derived
+pub mod Root
+pub mod Depth
+pub mod Walked
+pub mod Kept

@@ -1,0 +1,5 @@
+pub mod Derives
+mod Examples
+mod Joined
+pub mod Layers
+pub mod Lists
