@@ -1,0 +1,11 @@
+pub mod HypothesesProve
+pub mod Writings
+pub mod Branches
+pub mod Children
+pub mod PropositionalRules
+pub mod QuantifierRules
+pub mod Chains
+pub mod EqualityRules
+pub mod Induction
+pub mod GoalIsTyped
+pub mod Worked

@@ -1,0 +1,5 @@
+use Rattle.lp_translation.proofs.laws.goal_files_are_well_formed.Goals as goal
+use Rattle.lp_translation.proofs.GoalIsTyped.{goal_files_are_well_formed}
+
+pub returns : goal.returns
+returns c = goal_files_are_well_formed c.selected_rules_are_sound.ensures c.steps_keep_typing.ensures c.signatures_are_well_formed.ensures

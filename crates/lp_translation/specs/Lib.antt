@@ -1,0 +1,4 @@
+pub mod ProofOf
+pub mod Goal
+pub mod Laws
+pub mod Worked
