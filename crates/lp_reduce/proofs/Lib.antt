@@ -1,0 +1,10 @@
+pub mod Scoped
+pub mod Layers
+pub mod Puts
+pub mod Steps
+pub mod Counted
+pub mod Composed
+pub mod Bodies
+pub mod Bounds
+pub mod Loop
+pub mod Promises
