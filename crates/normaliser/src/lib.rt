@@ -1,0 +1,11 @@
+//! Leftmost innermost normal forms, within a limit of steps and of depth.
+#![tactic(auto)]
+
+mod connective;
+mod copies;
+mod forms;
+pub mod laws;
+mod normalising;
+mod terms;
+
+pub use normalising::{NormalStop, normal};
