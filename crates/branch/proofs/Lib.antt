@@ -68,3 +68,4 @@ pub mod Ending
 pub mod LeafListed
 pub mod SameState
 pub mod Refuted
+pub mod Stages

@@ -4,6 +4,7 @@ use Rattle.std.specs.Borrow.{Bor, Fml, MutBor}
 use Rattle.std.specs.Io.BufRead.{Rests}
 use Rattle.choosers.specs.declared.offer.Offer.{Offer}
 use Rattle.branch.specs.contracts.tableau.Open as opened
+use Rattle.branch.specs.contracts.tableau.OpenStage.TheImpl.{ghosts}
 use Rattle.branch.specs.contracts.tableau.Tableau.{the_row}
 use Rattle.branch.specs.declared.stop.BranchStop.{BranchStop}
 use Rattle.branch.specs.Listed.{IfStop}
@@ -17,4 +18,4 @@ pub record HasAnswered (t u : State) (answer : Result (Bor (List Offer)) BranchS
   pub same : IsSame t u
 
 abbrev pub EndsAnswered : MutBor State → Result (Bor (List Offer)) BranchStop → Fml
-EndsAnswered t answer = Rests (the_row opened.the_row) t (λ u. HasAnswered t.now u answer)
+EndsAnswered t answer = Rests (the_row opened.the_row ghosts) t (λ u. HasAnswered t.now u answer)

@@ -1,5 +1,5 @@
 -- What contracts see of a tableau, and what its type keeps.
-use Rattle.std.specs.Prelude.{ℕ, ◌≡◌, ◌≤◌, true, false, List, [], map, length, Option, None, Some, IfSome}
+use Rattle.std.specs.Prelude.{ℕ, ◌≡◌, ◌≤◌, Bool, true, false, List, [], map, length, Option, None, Some, IfSome}
 use Rattle.std.specs.Option.{option_map}
 use Rattle.zm_logic.specs.Tree.{Form}
 use Rattle.zm_logic.specs.View.{symbol_tree}
@@ -111,3 +111,8 @@ pub record IsKept (t : State) : Type 0 where
   pub begun : IsBegun t
   pub tree : IsTree t
   pub current : HasCurrent t t.current
+
+-- What the type keeps at a stage: of a closed tableau also that no leaf is Open.
+abbrev pub Keeps : Bool → State → Type 0
+Keeps false t = IsKept t
+Keeps true t = IsKept t × (tableau.is_finished (tree t) ≡ true)

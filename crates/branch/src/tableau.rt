@@ -1,4 +1,4 @@
-ghost use Rattle.std.specs.Prelude.{◌≡◌, true, false, IfOk, IfErr, slice_get};
+ghost use Rattle.std.specs.Prelude.{◌≡◌, Bool, true, false, IfOk, IfErr, slice_get};
 ghost use Rattle.branch.specs.Tableau as spec;
 ghost use Rattle.branch.specs.State.{State, IsKept, tree};
 ghost use Rattle.branch.specs.Stepped.{IsOpen, IsOfBranch, IsAbove};
@@ -11,15 +11,29 @@ use sqlite_items::Items;
 use std::alloc::{AllocError, Global};
 use std::marker::Model;
 use term_store::{FormId, FormIds, Store};
-use zm_logic::Symbols;
+use zm_logic::{Symbol, Symbols};
+
+/// What a tableau's mark says of its leaves.
+pub trait Stage {
+    // whether no leaf is Open
+    ghost is_closed: { Bool };
+}
 
 /// Marks a tableau that may have an Open leaf.
 #[derive(Clone, Copy, Debug, PartialEq, Eq)]
 pub struct Open;
 
+impl Stage for Open {
+    ghost is_closed = { false };
+}
+
 /// Marks a tableau without an Open leaf.
 #[derive(Clone, Copy, Debug, PartialEq, Eq)]
 pub struct Closed;
+
+impl Stage for Closed {
+    ghost is_closed = { true };
+}
 
 /// A formula that the tableau began with, and its normal form.
 #[derive(Clone, Copy, Debug, PartialEq, Eq)]
@@ -68,7 +82,7 @@ pub(crate) struct Current {
 
 /// A tableau, with the store of its formulas and the numbers of the quantified ones.
 #[derive(Drop)]
-pub struct Tableau<S> {
+pub struct Tableau<S: Stage> {
     pub(crate) alloc: Global,
     pub(crate) symbols: Symbols,
     pub(crate) rewrites: u32,
@@ -83,11 +97,11 @@ pub struct Tableau<S> {
     pub(crate) state: S,
 }
 
-impl<S> Model for Tableau<S> {
+impl<S: Stage> Model for Tableau<S> {
     ghost use Rattle.std.specs.Coded.{codes};
     ghost use Rattle.zm_logic.specs.contracts.tree.Ty as ty;
     ghost use Rattle.branch.specs.contracts.node.Node as node;
-    ghost use Rattle.branch.specs.State.{State, IsKept};
+    ghost use Rattle.branch.specs.State.{State, Keeps};
 
     ghost Value = { State };
 
@@ -95,10 +109,10 @@ impl<S> Model for Tableau<S> {
 
     ghost view = { λ t. record { symbols = t.symbols; rewrites = t.rewrites; store = t.store; params = t.params; roots = t.roots; node = t.tree; run = t.picks; current = t.current } };
 
-    ghost invariant = { λ t. IsKept (record { symbols = t.symbols; rewrites = t.rewrites; store = t.store; params = t.params; roots = t.roots; node = t.tree; run = t.picks; current = t.current }) };
+    ghost invariant = { λ t. Keeps S.is_closed (record { symbols = t.symbols; rewrites = t.rewrites; store = t.store; params = t.params; roots = t.roots; node = t.tree; run = t.picks; current = t.current }) };
 }
 
-impl<S> Tableau<S> {
+impl<S: Stage> Tableau<S> {
     /// What the type keeps: the tree is a lawful tableau below the root's branch, of formulas that are well typed, without
     /// parameters and without equalities, and what is noted of the current leaf is true of it. It does nothing, and takes
     /// no memory.
@@ -106,6 +120,13 @@ impl<S> Tableau<S> {
         ensures { IsKept self.now }
     {
         let _ = &self.tree;
+    }
+
+    /// The symbols of the tableau's formulas. It takes no memory.
+    pub fn symbols(&self) -> &[Symbol]
+        ensures { result.now ≡ self.now.symbols }
+    {
+        self.symbols.as_slice()
     }
 
     /// The store of the tableau's formulas. It takes no memory.
@@ -133,6 +154,7 @@ impl<S> Tableau<S> {
     pub fn steps(&self) -> u32
         ensures { result ≡ spec.count (tree self.now) }
     {
+        self.kept();
         self.picks.len() as u32
     }
 
@@ -140,6 +162,7 @@ impl<S> Tableau<S> {
     pub fn picks(&self, alloc: Global) -> Result<Items<usize>, AllocError>
         ensures { IfOk result (λ ks. ks ≡ spec.picks (tree self.now)) }
     {
+        self.kept();
         Items::from_slice(alloc, self.picks.as_slice())
     }
 
@@ -147,7 +170,17 @@ impl<S> Tableau<S> {
     pub fn pick_at(&self, number: u32) -> Option<usize>
         ensures { result ≡ slice_get (spec.picks (tree self.now)) number }
     {
+        self.kept();
         self.picks.get(number as usize).copied()
+    }
+}
+
+impl Tableau<Closed> {
+    /// What the type keeps of a closed tableau: no leaf is Open. It does nothing, and takes no memory.
+    pub fn has_no_open_leaf(&self)
+        ensures { spec.is_finished (tree self.now) ≡ true }
+    {
+        let _ = &self.tree;
     }
 }
 
