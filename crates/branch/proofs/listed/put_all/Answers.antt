@@ -1,44 +1,50 @@
-use Rattle.std.proofs.Common.{◌≡◌, ◌+◌, List, [], ◌∷◌, ◌++◌, map, take, append_assoc, ap, sym, subst, ◌∙◌}
-use Rattle.std.proofs.lemmas.List.{take_all}
-use Rattle.param_store.specs.View.{forms_of, raw_of, HasRaw}
-use Rattle.param_store.specs.declared.offer.RawOffer.{RawOffer}
+use Rattle.std.proofs.Common.{◌≡◌, [], map, subst, rules}
+use Rattle.param_store.specs.View.{forms_of, raw_of, HasRaw, HasRaws}
 use Rattle.branch.specs.Ids.{kind_of}
-use Rattle.branch.specs.Left.{offers_at}
-use Rattle.branch.specs.Listed.{AreListed}
-use Rattle.branch.specs.Offers.{Offer}
-use Rattle.branch.proofs.Useful.{offers_more, raw_at_place}
+use Rattle.branch.proofs.Useful.{RestListed, first_is, rest_all, rest_less, rest_none}
 use Rattle.branch.proofs.listed.put_all.Goals as goal
+
+pub loop-alloc-init : goal.loop-alloc-init
+loop-alloc-init c =
+    let s = c.args.store.now in
+    let p = c.args.place in
+    record {
+      listed = λ os h. rest_all s (forms_of s c.args.found.now) (kind_of p.kind) p.later p.earlier os (map (raw_of s) c.args.raws) c.args.listing.now.offers h;
+      has = c.requires.has_raws;
+      knows = c.requires.knows;
+    }
 
 pub put-requires-clause-has_raw : goal.put-requires-clause-has_raw
 put-requires-clause-has_raw c =
-    let s = c.args.store.now in
-    subst (HasRaw s) (sym c.raw-item.is) (raw_at_place s c.args.raws.now c.loop-raw.raw-index c.raw-item.result c.loop-raw-test.true c.requires.has_raws)
+    let h = subst (HasRaws c.args.store.now) (first_is c.loop-alloc.raws c.remove-raw.new.self c.remove-raw.result c.remove-raw.ensures.item c.remove-raw.ensures.rest)
+    c.loop-alloc.invariant.has in
+    h.0
 
-pub loop-raw-preserved : goal.loop-raw-preserved
-loop-raw-preserved c =
+pub loop-alloc-preserved : goal.loop-alloc-preserved
+loop-alloc-preserved c =
     let s = c.args.store.now in
-    let b = forms_of s c.args.forms.now in
+    let b = forms_of s c.args.found.now in
     let p = c.args.place in
-    let raws = c.args.raws.now in
-    let i = c.loop-raw.raw-index in
-    let d = c.raw-item.result in
-    let new = c.put.new.listing.offers in
-    let left : List RawOffer → List Offer = λ rs. offers_at b (kind_of p.kind) p.later p.earlier (map (raw_of s) rs) in
-    let more = offers_more b (kind_of p.kind) p.later p.earlier s raws i d c.loop-raw-test.true in
-    let last : left (take i raws) ++ left (d ∷ []) ≡ left (take (i + 1) raws) = ap (λ r. left (take i raws) ++ left (r ∷ [])) c.raw-item.is ∙ sym more in
+    let r = c.remove-raw.result in
+    let rest = c.remove-raw.new.self in
+    let e = first_is c.loop-alloc.raws rest r c.remove-raw.ensures.item c.remove-raw.ensures.rest in
+    let all = map (raw_of s) c.args.raws in
+    let has = subst (HasRaws s) e c.loop-alloc.invariant.has in
     record {
       listed = λ os h.
-          subst (λ xs. AreListed s xs new) (append_assoc os (left (take i raws)) (left (d ∷ [])) ∙ ap (λ x. os ++ x) last)
-          (c.in_ok-put.ensures.listed (os ++ left (take i raws)) (c.loop-raw.invariant.listed os h));
+          rest_less s b (kind_of p.kind) p.later p.earlier os all (raw_of s r) (map (raw_of s) rest) c.loop-alloc.listing.offers c.put.new.listing.offers
+          (subst (λ rs. RestListed s b (kind_of p.kind) p.later p.earlier os all (map (raw_of s) rs) c.loop-alloc.listing.offers) e (c.loop-alloc.invariant.listed os h))
+          c.in_ok-put.ensures.listed;
+      has = has.1;
       knows = c.in_ok-put.ensures.knows;
     }
 
 pub returns-clause-listed : goal.returns-clause-listed
-returns-clause-listed c =
+returns-clause-listed c = λ os h.
     let s = c.args.store.now in
-    let b = forms_of s c.args.forms.now in
+    let b = forms_of s c.args.found.now in
     let p = c.args.place in
-    subst
-    (λ rs. (os : List Offer) → AreListed s os c.args.listing.now.offers
-    → AreListed s (os ++ offers_at b (kind_of p.kind) p.later p.earlier (map (raw_of s) rs)) c.loop-raw.listing.offers)
-    (take_all c.loop-raw.raw-index c.args.raws.now c.loop-raw-test.false) c.loop-raw.invariant.listed
+    let all = map (raw_of s) c.args.raws in
+    let none : c.loop-alloc.raws ≡ [] = c.is_empty.ensures.0 (search rules) in
+    rest_none s b (kind_of p.kind) p.later p.earlier os all c.loop-alloc.listing.offers
+    (subst (λ rs. RestListed s b (kind_of p.kind) p.later p.earlier os all (map (raw_of s) rs) c.loop-alloc.listing.offers) none (c.loop-alloc.invariant.listed os h))

@@ -14,6 +14,7 @@ use Rattle.branch.specs.Listed.{IfStop, listed_of}
 use Rattle.branch.specs.Listing.{AddsPart, AreNumbered, IsTooDeep}
 use Rattle.branch.specs.Offers.{AreOffers, HasFault}
 use Rattle.branch.proofs.Adding.{if_stop}
+use Rattle.branch.proofs.Found.{lookup_stays}
 use Rattle.branch.proofs.Outcomes.{if_err_is}
 use Rattle.branch.proofs.Parted.{places_none, places_more, places_deep, all_listed, each_listed, stopped, IsFault}
 use Rattle.branch.proofs.Ready.{known_still}
@@ -33,6 +34,10 @@ loop-later-init c = record {
 
 pub list_place-requires-clause-has : goal.list_place-requires-clause-has
 list_place-requires-clause-has c = forms_still c.args.store.now c.loop-later.store c.loop-later.invariant.kept c.args.forms.now c.requires.has
+
+pub list_place-requires-clause-lookup : goal.list_place-requires-clause-lookup
+list_place-requires-clause-lookup c =
+    lookup_stays c.args.store.now c.loop-later.store c.loop-later.invariant.kept c.args.forms.now c.in_ok-lookup.lookup c.requires.has c.in_ok-lookup.ensures
 
 pub list_place-requires-clause-numbered : goal.list_place-requires-clause-numbered
 list_place-requires-clause-numbered c =
@@ -80,10 +85,10 @@ returns-in_err-list_place-clause-deep c =
     (λ at z. stopped symbols params forms u w kept c.requires.has c.requires.numbered c.requires.no_equality (j + 1) at
     (places_deep symbols params forms u v w c.loop-later.invariant.kept j c.loop-later-test.true [] m c.loop-later.invariant.adds at z))
     stop deep in
-    let p = err_from_is_err_and c.from_residual.result c.from_residual.ensures.1 in
+    let p = err_from_is_err_and c.from_residual-in_err-list_place.result c.from_residual-in_err-list_place.ensures.1 in
     let IsNamed : List FormId → Redex → Type 0 =
     λ ps at. HasRedex w at × ((s : Setting) → s.symbols ≡ symbols → s.rules ≡ [] → HasFault s (forms_of w ps) (forms_of w forms) (Fault.deep (redex_of w at))) in
-    if_err_is c.from_residual.result (IfStop (IsNamed c.list_place.new.params)) p.0 stop p.1 p.2
+    if_err_is c.from_residual-in_err-list_place.result (IfStop (IsNamed c.list_place.new.params)) p.0 stop p.1 p.2
     (subst (λ ps. IfStop (IsNamed ps) stop) (sym (c.in_err-list_place.ensures.params ∙ c.loop-later.invariant.params)) named)
 
 pub returns-in_err-list_place-clause-kept : goal.returns-in_err-list_place-clause-kept
