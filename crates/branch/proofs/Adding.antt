@@ -28,6 +28,9 @@ use Rattle.branch.specs.Offers.{Offer}
 use Rattle.branch.specs.Left.{AreLeft, Fails, own_kind, form_at, offers_at, OwnAt, SingleAt, PairAt}
 use Rattle.branch.specs.Listed.{AreListed, IfStop, stop_of}
 use Rattle.branch.specs.Listing.{IsCase, AddsPart, IsTooDeep}
+use Rattle.branch.specs.declared.lookup.Lookup.{Lookup}
+use Rattle.branch.specs.Lookup.{IsLookup}
+use Rattle.branch.proofs.Found.{offers_alike, lookup_stays}
 use Rattle.branch.proofs.Unchanged.{entries_left, instances_left, none_left, both_left}
 use Rattle.branch.proofs.Together.{fails_then, fails_after}
 use Rattle.branch.proofs.Refusing.{own_entries_are, single_entries, pair_entries, single_fails, pair_fails, own_fails}
@@ -95,7 +98,7 @@ module _ (symbols : List Symbol) (params forms : List FormId) where
   )
 
 -- the tree at a place
-map_at : (u : Tables) (forms : List FormId) (j : ℕ) (d : FormId) → j < length forms → form_at (forms_of u forms) j ≡ form_of u (get_or forms j d)
+pub map_at : (u : Tables) (forms : List FormId) (j : ℕ) (d : FormId) → j < length forms → form_at (forms_of u forms) j ≡ form_of u (get_or forms j d)
 map_at u [] j d l = absurd (omega arith)
 map_at u (i ∷ is) zero d l = refl
 map_at u (i ∷ is) (suc j) d l = map_at u is j d (omega arith)
@@ -133,6 +136,14 @@ module _ (u v : Tables) (e : Extends u v) (symbols : List Symbol) (params forms 
   -- what was listed of raw offers
   abbrev pub Puts : Kind → ℕ → Option ℕ → List RawOffer → List Listed → List Listed → Type 0
   Puts k j i raws old new = (os : List Offer) → AreListed v os old → AreListed v (os ++ offers_at (forms_of v forms) k j i (map (raw_of v) raws)) new
+
+  -- the formulas found are those of the branch
+  pub found_puts : (l : Lookup) → IsLookup u forms l → (k : Kind) (j : ℕ) (i : Option ℕ) (raws : List RawOffer) (old new : List Listed)
+      → ((os : List Offer) → AreListed v os old → AreListed v (os ++ offers_at (forms_of v l.found) k j i (map (raw_of v) raws)) new)
+      → Puts k j i raws old new
+  found_puts l h k j i raws old new put os x =
+      let same = (lookup_stays u v e forms l has h).found in
+      subst (λ ps. AreListed v (os ++ ps) new) (offers_alike (forms_of v l.found) (forms_of v forms) same k j i (map (raw_of v) raws)) (put os x)
 
   put_is : (k : Kind) (j : ℕ) (i : Option ℕ) (raws : List RawOffer) (old new : List Listed) (b : List Form) (rs : List Raw)
       → forms_of v forms ≡ b → map (raw_of v) raws ≡ rs → Puts k j i raws old new

@@ -48,6 +48,11 @@ map_get s (x ∷ ls) (suc i) l e = map_get s ls i l e
 pub claim_noted : (t : State) (k : IsKept t) (c : Current) → IsCurrent t c → (P : tableau.Leaf → Type 0) → AtLeaf t P → P (leaf_at t c)
 claim_noted t k c h P a = subst P (leaf_noted t k.begun c h a.leaf a.is_current) a.holds
 
+-- nothing closes the branch that is noted
+pub unclosed_here : (t u : State) → t ≡ u → IsKept t → (c : Current) → t.current ≡ Some c → IsUnclosed u → closing (forms_of t.store c.branch.forms) ≡ None
+unclosed_here t u e k c p a =
+    claim_noted t k c (subst (HasCurrent t) p k.current) (λ leaf. closing leaf.branch ≡ None) (subst IsUnclosed (sym e) a)
+
 -- an offer of the leaf is one of those that are listed
 pub offer_listed : (t : State) (k : IsKept t) (c : Current) → IsCurrent t c → (pick : ℕ) → HasOffer t pick → (o : Offered) → c.offered ≡ Some o → HasListed c pick
 offer_listed t k c h pick a o e =

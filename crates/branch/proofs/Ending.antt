@@ -1,5 +1,5 @@
 -- The current leaf is closed: the tableau is kept, and grown by it.
-use Rattle.std.proofs.Common.{ℕ, ◌≡◌, refl, ap, sym, subst, ◌∙◌, arith, List, Option, None, Some, IfSome}
+use Rattle.std.proofs.Common.{ℕ, ◌≡◌, refl, ap, sym, subst, ◌∙◌, arith, List, [], Option, None, Some, IfSome}
 use Rattle.std.specs.Option.{option_map}
 use Rattle.term_store.specs.Trees.{Tables}
 use Rattle.term_store.specs.declared.ids.FormId.{FormId}
@@ -10,11 +10,12 @@ use Rattle.branch.specs.declared.node.Node as code
 use Rattle.branch.specs.declared.tableau.Current.{Current}
 use Rattle.branch.specs.Branch.{closing}
 use Rattle.branch.specs.Ids.{Node, node_ids, closing_of, HasClosing}
-use Rattle.branch.specs.Path.{put, next, along, brought, extend_all}
-use Rattle.branch.specs.State.{State, root, table, branch_at, leaf_at, IsCurrent, HasCurrent, IsKept}
+use Rattle.branch.specs.Path.{put, next, along, brought, extend_all, LeadsBelow}
+use Rattle.branch.specs.State.{State, setting, normal_ids, root, table, branch_at, leaf_at, IsCurrent, HasCurrent, IsKept}
 use Rattle.branch.specs.Stepped.{IsClosedAt}
 use Rattle.branch.specs.Stepping.{IsLeaf, OfCurrent, ClosesCurrent, GoesTo}
 use Rattle.branch.specs.Tableau.{enter}
+use Rattle.branch.proofs.Behind.{next_leads}
 use Rattle.branch.proofs.Lawful.{leaves_may_be_replaced}
 use Rattle.branch.proofs.States.{moved, Fits, moved_tree, leaf_of, end_kept, next_kept}
 
@@ -94,3 +95,10 @@ module _ (t v : State) (e : t ≡ v) (k : IsKept t) (c : Current) (p : t.current
         → (d : Current) → IsLeaf t.store q (extend_all (root t) (lists_of t.store (along q (node_ids t.node)))) d
         → IsKept (moved t y params t.run (Some d))
     behind_kept q g y same params has entered d leaf = gone_kept t k c noted pair is_pair y same q (goes (Some q) g) params has entered d leaf
+
+-- the next child stands below a branch that isn't closed
+pub leads_below : (t u : State) → t ≡ u → IsKept t → (q : List ℕ) → GoesTo u (Some q) → LeadsBelow t.store (normal_ids t) q (node_ids t.node)
+leads_below t u e k q g =
+    let a : GoesTo t (Some q) = subst (λ v. GoesTo v (Some q)) (sym e) g in
+    let h = next_leads t.store (setting t) a.current.path (node_ids t.node) q (enter [] (root t)) (root t) k.tree.tableau.lawful a.holds in
+    record { last = h.0; unclosed = h.1 }

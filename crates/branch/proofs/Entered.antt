@@ -61,13 +61,13 @@ module _ (s : Tables) where
   held_numbers false ids f h k = h
 
   module _ (shared : AreShared s) where
-    has_is : (ids : List FormId) (f : FormId) → HasForms s ids → HasForm s f → has (forms_of s ids) (form_of s f) ≡ list_any (same_id f) ids
+    pub has_is : (ids : List FormId) (f : FormId) → HasForms s ids → HasForm s f → has (forms_of s ids) (form_of s f) ≡ list_any (same_id f) ids
     has_is [] f h k = refl
     has_is (g ∷ ids) f h k =
         ap (λ b. b || has (forms_of s ids) (form_of s f)) (same_is s shared f g k h.0)
         ∙ ap (λ b. same_id f g || b) (has_is ids f h.1 k)
 
-    with_is : (ids : List FormId) (f : FormId) → HasForms s ids → HasForm s f → forms_of s (with_form ids f) ≡ add (forms_of s ids) (form_of s f)
+    pub with_is : (ids : List FormId) (f : FormId) → HasForms s ids → HasForm s f → forms_of s (with_form ids f) ≡ add (forms_of s ids) (form_of s f)
     with_is ids f h k =
         by (list_any (same_id f) ids) ∙ ap (λ b. cond b (forms_of s ids) (forms_of s ids ++ form_of s f ∷ [])) (sym (has_is ids f h k))
       where

@@ -69,3 +69,8 @@ pub mod LeafListed
 pub mod SameState
 pub mod Refuted
 pub mod Stages
+pub mod Skipped
+pub mod Opposed
+pub mod Found
+pub mod Noted
+pub mod Behind

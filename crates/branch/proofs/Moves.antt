@@ -18,14 +18,14 @@ none_of i None None e = (refl, refl)
 none_of i None (Some d) e = absurd (let q = e in cc)
 none_of i (Some js) c e = absurd (let q = e in cc)
 
-some_of : (P : List ℕ → Type 0) (i : ℕ) (o : Option (List ℕ)) (c : Option Child) (q : List ℕ)
+pub some_of : (P : List ℕ → Type 0) (i : ℕ) (o : Option (List ℕ)) (c : Option Child) (q : List ℕ)
     → option_or (option_map (λ js. i ∷ js) o) (option_map (λ d. suc i ∷ []) c) ≡ Some q
     → ((js : List ℕ) → o ≡ Some js → P (i ∷ js)) → ((d : Child) → o ≡ None → c ≡ Some d → P (suc i ∷ [])) → P q
 some_of P i None None q e f g = absurd (let z = e in cc)
 some_of P i None (Some d) q e f g = subst P (same_Some (suc i ∷ []) q e) (g d refl refl)
 some_of P i (Some js) c q e f g = subst P (same_Some (i ∷ js) q e) (f js refl)
 
-nonempty : (p : List ℕ) (n : Node) → next p n ≡ Some [] → ⊥
+pub nonempty : (p : List ℕ) (n : Node) → next p n ≡ Some [] → ⊥
 nonempty [] n e = let q = e in cc
 nonempty (i ∷ is) (Node.step k t a ns) e =
     some_of (λ q. q ≡ [] → ⊥) i (next_in i is ns) (child_in (suc i) ns) [] e (λ js o z. let w = z in cc) (λ d o c z. let w = z in cc) refl

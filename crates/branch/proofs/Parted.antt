@@ -1,5 +1,5 @@
 -- The offers of a branch, part by part: what the loops list, and what stops them.
-use Rattle.std.proofs.Common.{ℕ, ◌≡◌, ◌+◌, ◌<◌, false, List, [], length, map, refl, sym, subst, ◌∙◌, arith}
+use Rattle.std.proofs.Common.{ℕ, zero, suc, ◌≡◌, ◌+◌, ◌-◌, ◌<◌, ◌≤◌, false, List, [], length, map, append-nil, None, refl, sym, subst, ◌∙◌, arith}
 use Rattle.zm_logic.specs.Tree.{Form, Symbol}
 use Rattle.term_store.specs.Trees.{Tables, Extends}
 use Rattle.term_store.specs.Open.{HasRedex, redex_of}
@@ -11,9 +11,10 @@ use Rattle.branch.specs.declared.listed.Listed.{Listed}
 use Rattle.branch.specs.declared.stop.BranchStop.{BranchStop}
 use Rattle.branch.specs.Setting.{Setting}
 use Rattle.branch.specs.Normal.{Fault}
-use Rattle.branch.specs.BranchOffers.{has_equality}
+use Rattle.equality_rules.specs.Pairs.{opposites}
+use Rattle.branch.specs.BranchOffers.{PairEntries, has_equality}
 use Rattle.branch.specs.Offers.{AreOffers, HasFault}
-use Rattle.branch.specs.Left.{OwnAt, SingleAt, PairAt, PairsTo, OthersAt, PlaceAt, PlacesTo}
+use Rattle.branch.specs.Left.{form_at, OwnAt, SingleAt, PairAt, PairsTo, OthersAt, PlaceAt, PlacesTo}
 use Rattle.branch.specs.Listed.{EachListed, IfStop, listed_of}
 use Rattle.branch.specs.Listing.{IsCase, AddsPart, IsTooDeep}
 use Rattle.branch.proofs.Together.{no_pairs, pair_more, single_and_pairs, own_and_others, no_places, place_more, all_offers, pairs_then, single_then, own_then, has_fault}
@@ -31,6 +32,40 @@ module _ (symbols : List Symbol) (params forms : List FormId) where
 
   pub places_none : (u : Tables) (ls : List Listed) → AddsPart (PlacesTo 0) u u symbols params forms ls ls
   places_none u ls = adds_none symbols params forms (PlacesTo 0) u ls (λ s table branch c. no_places s table branch)
+
+  -- a pair that gives nothing, and several of them
+  module _ (u v : Tables) (j : ℕ) (l m : List Listed) where
+    abbrev IsIdle : ℕ → Type 0
+    IsIdle k = opposites (form_at (forms_of u forms) k) (form_at (forms_of u forms) j) ≡ None
+
+    pairs_idle : (n : ℕ) → n < length forms → IsIdle n → AddsPart (PairsTo j n) u v symbols params forms l m
+        → AddsPart (PairsTo j (n + 1)) u v symbols params forms l m
+    pairs_idle n x q h s table branch c =
+        let y = h s table branch c in
+        let z : PairAt j n s table branch [] = PairEntries.none (subst (λ b. opposites (form_at b n) (form_at b j) ≡ None) c.branch.forms q) in
+        record {
+          entries = y.entries;
+          are = subst (λ es. PairsTo j (n + 1) s table branch es) (append-nil y.entries)
+              (pair_more s table branch j n y.entries [] (within u s table branch c n x) y.are z);
+          offers = y.offers;
+          left = y.left;
+          listed = y.listed;
+        }
+
+    pairs_idle_on : (d n : ℕ) → n + d ≤ length forms → ((k : ℕ) → n ≤ k → k < n + d → IsIdle k) → AddsPart (PairsTo j n) u v symbols params forms l m
+        → AddsPart (PairsTo j (n + d)) u v symbols params forms l m
+    pairs_idle_on zero n x q h = let e : n ≡ n + 0 = omega arith in subst (λ k. AddsPart (PairsTo j k) u v symbols params forms l m) e h
+    pairs_idle_on (suc d) n x q h =
+        let e : (n + 1) + d ≡ n + suc d = omega arith in
+        subst (λ k. AddsPart (PairsTo j k) u v symbols params forms l m) e
+        (pairs_idle_on d (n + 1) (omega arith) (λ k a b. q k (omega arith) (omega arith)) (pairs_idle n (omega arith) (q n (omega arith) (omega arith)) h))
+
+    pub pairs_skip : (from to : ℕ) → from ≤ to → to ≤ length forms → ((k : ℕ) → from ≤ k → k < to → IsIdle k) → AddsPart (PairsTo j from) u v symbols params forms l m
+        → AddsPart (PairsTo j to) u v symbols params forms l m
+    pairs_skip from to a x q h =
+        let e : from + (to - from) ≡ to = omega arith in
+        subst (λ k. AddsPart (PairsTo j k) u v symbols params forms l m) e
+        (pairs_idle_on (to - from) from (omega arith) (λ k b c. q k b (omega arith)) h)
 
   module _ (u v w : Tables) (e : Extends u v) (j : ℕ) where
     -- one more pair

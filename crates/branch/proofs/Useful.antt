@@ -1,5 +1,5 @@
 -- Which raw offers are left: formulas stand on a branch as their ids do.
-use Rattle.std.proofs.Common.{ℕ, zero, suc, ◌≡◌, ◌+◌, ◌<◌, ◌≤◌, Bool, true, false, ◌&&◌, ◌||◌, not, cond, Option, List, [], ◌∷◌, ◌++◌, length, take, drop, get_or, map, filter, append-nil, refl, ap, sym, subst, ◌∙◌, arith}
+use Rattle.std.proofs.Common.{ℕ, zero, suc, ◌≡◌, ◌+◌, ◌<◌, ◌≤◌, Bool, true, false, ◌&&◌, ◌||◌, not, cond, Option, List, [], ◌∷◌, ◌++◌, length, take, drop, get_or, map, filter, append-nil, append_assoc, refl, ap, sym, subst, ◌∙◌, arith}
 use Rattle.std.proofs.lemmas.List.{take_more, drop_more, map-append}
 use Rattle.std.proofs.lemmas.List.Elements.{filter-append}
 use Rattle.zm_logic.specs.Tree.{Form}
@@ -96,6 +96,29 @@ module _ (b : List Form) (k : Kind) (j : ℕ) (i : Option ℕ) where
       ap (λ xs. offers_at b k j i (map (raw_of s) xs)) (take_more raws n d l)
       ∙ ap (offers_at b k j i) (map-append (raw_of s) (take n raws) (get_or raws n d ∷ []))
       ∙ offers_both (map (raw_of s) (take n raws)) (raw_of s (get_or raws n d) ∷ [])
+
+-- What is listed so far of all raw offers, where some are still to come.
+pub record RestListed (s : Tables) (b : List Form) (k : Kind) (j : ℕ) (i : Option ℕ) (os : List Offer) (all rest : List Raw) (new : List Listed) : Type 0 where
+  pub so_far : List Offer
+  pub listed : AreListed s so_far new
+  pub whole : so_far ++ offers_at b k j i rest ≡ os ++ offers_at b k j i all
+
+module _ (s : Tables) (b : List Form) (k : Kind) (j : ℕ) (i : Option ℕ) (os : List Offer) (all : List Raw) where
+  pub rest_all : (old : List Listed) → AreListed s os old → RestListed s b k j i os all all old
+  rest_all old h = record { so_far = os; listed = h; whole = refl }
+
+  -- the first of the rest is listed, or left out
+  pub rest_less : (r : Raw) (rest : List Raw) (old new : List Listed) → RestListed s b k j i os all (r ∷ rest) old
+      → ((ps : List Offer) → AreListed s ps old → AreListed s (ps ++ offers_at b k j i (r ∷ [])) new) → RestListed s b k j i os all rest new
+  rest_less r rest old new h put = record {
+    so_far = h.so_far ++ offers_at b k j i (r ∷ []);
+    listed = put h.so_far h.listed;
+    whole = append_assoc h.so_far (offers_at b k j i (r ∷ [])) (offers_at b k j i rest)
+        ∙ (ap (λ ps. h.so_far ++ ps) (sym (offers_both b k j i (r ∷ []) rest)) ∙ h.whole);
+  }
+
+  pub rest_none : (new : List Listed) → RestListed s b k j i os all [] new → AreListed s (os ++ offers_at b k j i all) new
+  rest_none new h = subst (λ ps. AreListed s ps new) (sym (append-nil h.so_far) ∙ h.whole) h.listed
 
 -- what is the store's at a place
 pub form_at_place : (s : Tables) (ids : List FormId) (j : ℕ) (d : FormId) → j < length ids → HasForms s ids → HasForm s (get_or ids j d)

@@ -20,6 +20,8 @@ pub mod Path
 pub mod EqualityFree
 pub mod Left
 pub mod Listed
+pub mod Earlier
+pub mod Lookup
 pub mod Sizes
 pub mod Listing
 pub mod State

@@ -3,7 +3,9 @@ use Rattle.std.specs.Prelude.{ℕ, zero, suc, ◌≡◌, Bool, true, false, List
 use Rattle.std.specs.Option.{option_map, option_or}
 use Rattle.zm_logic.specs.Tree.{Form}
 use Rattle.term_store.specs.declared.ids.FormId.{FormId}
-use Rattle.branch.specs.Branch.{extend}
+use Rattle.term_store.specs.Trees.{Tables}
+use Rattle.param_store.specs.View.{forms_of, lists_of}
+use Rattle.branch.specs.Branch.{closing, extend}
 use Rattle.branch.specs.Ids.{Node, Children, Child}
 
 -- the child at a place
@@ -91,6 +93,17 @@ abbrev mutual
 abbrev pub extend_all : List Form → List (List Form) → List Form
 extend_all b [] = b
 extend_all b (fs ∷ more) = extend_all (extend b fs) more
+
+-- a path without its last place
+abbrev pub above : List ℕ → List ℕ
+above [] = []
+above (i ∷ []) = []
+above (i ∷ j ∷ js) = i ∷ above (j ∷ js)
+
+-- The path leads to a child, and nothing closes the branch of the node above it.
+pub record LeadsBelow (s : Tables) (roots : List FormId) (p : List ℕ) (n : Node) : Type 0 where
+  pub last : along p n ≡ along (above p) n ++ brought p n ∷ []
+  pub unclosed : closing (extend_all (extend [] (forms_of s roots)) (lists_of s (along (above p) n))) ≡ None
 
 -- The path to the next child: one inside the child to which the path's first place leads, or else the child behind it.
 abbrev mutual

@@ -1,14 +1,17 @@
-ghost use Rattle.std.specs.Prelude.{◌≡◌, ◌≤◌, Some, IfSome, length, take, drop};
+ghost use Rattle.std.specs.Prelude.{◌≡◌, ◌≤◌, false, List, [], ◌∷◌, ◌++◌, None, Some, OnOk, IfOk, IfSome, length, take};
 ghost use Rattle.std.specs.Option.{option_map};
 ghost use Rattle.zm_logic.specs.Tree as tree;
-ghost use Rattle.zm_logic.specs.Same.{same, same_type, same_term};
+ghost use Rattle.zm_logic.specs.Same.{has, same, same_type, same_term};
 ghost use Rattle.term_store.specs.Trees.{HasType, HasTerm, HasForm, type_of, term_of, form_of};
 ghost use Rattle.param_store.specs.View.{forms_of, HasForms};
 ghost use Rattle.branch.specs.Branch as spec;
 ghost use Rattle.branch.specs.Denied as spec_denied;
+ghost use Rattle.branch.specs.Earlier.{AreEarlier, CantClose};
 ghost use Rattle.branch.specs.Ids.{closing_of, HasClosing};
 
+use crate::form_set::FormSet;
 use crate::node::ClosingPair;
+use std::alloc::{AllocError, Global};
 use term_store::{FormId, FormNode, Store, TermId, TyId};
 
 // Whether two ids are those of one type.
@@ -296,11 +299,12 @@ fn closing_at(store: &Store, earlier: &[FormId], later: FormId) -> Option<Closin
 }
 
 /// What closes the branch at the places from `from` on: the least place, and for it one formula before every pair. It
-/// takes no memory.
+/// takes no memory. The condition is that nothing closes the formulas before `from`.
 pub(crate) fn closing_after(store: &Store, forms: &[FormId], from: usize) -> Option<ClosingPair>
     requires forms { HasForms store.now forms.now }
     requires from { from ≤ length forms.now }
-    ensures value { option_map (closing_of store.now) result ≡ spec.closing_from (forms_of store.now (take from forms.now)) (forms_of store.now (drop from forms.now)) }
+    requires unclosed { spec.closing (forms_of store.now (take from forms.now)) ≡ None }
+    ensures value { option_map (closing_of store.now) result ≡ spec.closing (forms_of store.now forms.now) }
     ensures has { IfSome result (HasClosing store.now) }
 {
     for place in from..forms.len() {
@@ -311,11 +315,91 @@ pub(crate) fn closing_after(store: &Store, forms: &[FormId], from: usize) -> Opt
     None
 }
 
-/// What closes the branch. It takes no memory.
-pub(crate) fn closing_pair(store: &Store, forms: &[FormId]) -> Option<ClosingPair>
-    requires { HasForms store.now forms.now }
-    ensures value { option_map (closing_of store.now) result ≡ spec.closing (forms_of store.now forms.now) }
+// The formulas before a place, and those that they deny, each found by its id.
+#[derive(Drop)]
+struct Earlier {
+    forms: FormSet,
+    denied: FormSet,
+}
+
+// Whether what a formula denies is among others.
+fn denied_stands(store: &Store, forms: &FormSet, form: FormId) -> bool
+    requires forms { HasForms store.now forms.now }
+    requires form { HasForm store.now form }
+    ensures { (d : tree.Form) → spec_denied.denied (form_of store.now form) ≡ Some d → result ≡ has (forms_of store.now forms.now) d }
+{
+    match denied(store, form) {
+        Some(denied) => forms.has(store, denied),
+        None => false,
+    }
+}
+
+// Whether a formula may close a branch with the earlier ones, or alone.
+fn may_close(store: &Store, earlier: &Earlier, form: FormId) -> bool
+    requires forms { HasForms store.now earlier.now.forms }
+    requires denied { HasForms store.now earlier.now.denied }
+    requires form { HasForm store.now form }
+    ensures { result ≡ false → CantClose (forms_of store.now earlier.now.forms) (forms_of store.now earlier.now.denied) (form_of store.now form) }
+{
+    closes_alone(store, form)
+        || is_equation(store, form)
+        || earlier.denied.has(store, form)
+        || denied_stands(store, &earlier.forms, form)
+}
+
+// Notes a formula as an earlier one.
+fn note_earlier(store: &Store, earlier: &mut Earlier, form: FormId) -> Result<(), AllocError>
+    requires forms { HasForms store.now earlier.old.forms }
+    requires denied { HasForms store.now earlier.old.denied }
+    requires form { HasForm store.now form }
+    ensures { OnOk result ((gs : List tree.Form) → AreEarlier store.now gs earlier.old → AreEarlier store.now (gs ++ form_of store.now form ∷ []) earlier.new) }
+{
+    earlier.forms.add(store, form)?;
+    match denied(store, form) {
+        Some(denied) => earlier.denied.add(store, denied),
+        None => Ok(()),
+    }
+}
+
+// What a formula closes, behind the earlier ones, which are looked at one by one only where one of them may close it.
+fn closing_noted(
+    store: &Store,
+    earlier: &[FormId],
+    noted: &Earlier,
+    later: FormId,
+) -> Option<ClosingPair>
+    requires earlier { HasForms store.now earlier.now }
+    requires noted { AreEarlier store.now (forms_of store.now earlier.now) noted.now }
+    requires later { HasForm store.now later }
+    ensures value { option_map (closing_of store.now) result ≡ spec.closing_at (forms_of store.now earlier.now) (form_of store.now later) }
     ensures has { IfSome result (HasClosing store.now) }
 {
-    closing_after(store, forms, 0)
+    if may_close(store, noted, later) {
+        closing_at(store, earlier, later)
+    } else {
+        None
+    }
+}
+
+/// What closes the branch. The one error is want of memory.
+pub(crate) fn closing_pair(
+    alloc: Global,
+    store: &Store,
+    forms: &[FormId],
+) -> Result<Option<ClosingPair>, AllocError>
+    requires { HasForms store.now forms.now }
+    ensures value { IfOk result (λ p. option_map (closing_of store.now) p ≡ spec.closing (forms_of store.now forms.now)) }
+    ensures has { IfOk result (λ p. IfSome p (HasClosing store.now)) }
+{
+    let mut earlier = Earlier {
+        forms: FormSet::new(alloc),
+        denied: FormSet::new(alloc),
+    };
+    for place in 0..forms.len() {
+        if let Some(pair) = closing_noted(store, &forms[..place], &earlier, forms[place]) {
+            return Ok(Some(pair));
+        }
+        note_earlier(store, &mut earlier, forms[place])?;
+    }
+    Ok(None)
 }

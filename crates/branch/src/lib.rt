@@ -8,9 +8,11 @@
 mod along;
 mod closing;
 mod entering;
+mod form_set;
 pub mod laws;
 mod listed;
 mod listing;
+mod lookup;
 mod next;
 mod node;
 mod place;
@@ -21,6 +23,7 @@ mod stop;
 mod tableau;
 mod why;
 
+pub use form_set::FormSet;
 pub use node::{Child, ClosingPair, Node};
 pub use start::StartStop;
 pub use stop::BranchStop;

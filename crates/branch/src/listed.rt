@@ -8,10 +8,10 @@ ghost use Rattle.branch.specs.Listed.{AreListed, IsListed, capped, forms_size, l
 ghost use Rattle.branch.specs.Left.{offer_at, offers_at};
 ghost use Rattle.branch.specs.Sizes.{KnowsSizes};
 
-use crate::entering::has;
+use crate::form_set::FormSet;
 use crate::sizes::{Sizes, form_size};
 use choosers::{Kind, Offer};
-use param_store::{Act, FormLists, RawOffer};
+use param_store::{Act, FormLists, RawOffer, RawOffers};
 use sqlite_items::Items;
 use std::alloc::{AllocError, Global};
 use term_store::{FormId, FormIds, Store};
@@ -58,13 +58,13 @@ pub(crate) struct Place {
 }
 
 // Whether all formulas of a child stand on the branch.
-fn has_all(store: &Store, branch: &[FormId], child: &[FormId]) -> bool
-    requires has { HasForms store.now branch.now }
+fn has_all(store: &Store, found: &FormSet, child: &[FormId]) -> bool
+    requires has { HasForms store.now found.now }
     requires has_child { HasForms store.now child.now }
-    ensures { result ≡ offers.has_all (forms_of store.now branch.now) (forms_of store.now child.now) }
+    ensures { result ≡ offers.has_all (forms_of store.now found.now) (forms_of store.now child.now) }
 {
     for form in child {
-        if !has(store, branch, *form) {
+        if !found.has(store, *form) {
             return false;
         }
     }
@@ -72,13 +72,13 @@ fn has_all(store: &Store, branch: &[FormId], child: &[FormId]) -> bool
 }
 
 // Whether some child has all its formulas on the branch.
-fn has_some(store: &Store, branch: &[FormId], children: &[FormIds]) -> bool
-    requires has { HasForms store.now branch.now }
+fn has_some(store: &Store, found: &FormSet, children: &[FormIds]) -> bool
+    requires has { HasForms store.now found.now }
     requires has_children { HasLists store.now children.now }
-    ensures { result ≡ offers.has_some (forms_of store.now branch.now) (lists_of store.now children.now) }
+    ensures { result ≡ offers.has_some (forms_of store.now found.now) (lists_of store.now children.now) }
 {
     for child in children {
-        if has_all(store, branch, child.as_slice()) {
+        if has_all(store, found, child.as_slice()) {
             return true;
         }
     }
@@ -128,23 +128,21 @@ fn copied(alloc: Global, lists: &[FormIds]) -> Result<FormLists, AllocError>
 }
 
 // A raw offer of a known size, each of whose formulas is its own normal form.
-fn of_size(alloc: Global, place: Place, raw: &RawOffer, size: u64) -> Result<Listed, AllocError>
-    ensures listed { (s : Tables) → HasRaw s raw.now → size ≡ capped (lists_size (lists_of s raw.now.children)) → IfOk result (IsListed s) }
-    ensures tree { (s : Tables) → IfOk result (λ l. listed_of s l ≡ offer_at (kind_of place.kind) place.later place.earlier (raw_of s raw.now)) }
+fn of_size(alloc: Global, place: Place, raw: RawOffer, size: u64) -> Result<Listed, AllocError>
+    ensures listed { (s : Tables) → HasRaw s raw → size ≡ capped (lists_size (lists_of s raw.children)) → IfOk result (IsListed s) }
+    ensures tree { (s : Tables) → IfOk result (λ l. listed_of s l ≡ offer_at (kind_of place.kind) place.later place.earlier (raw_of s raw)) }
 {
-    let children = raw.children.as_slice();
-    let formulas = copied(alloc, children)?;
-    let normal = copied(alloc, children)?;
+    let normal = copied(alloc, raw.children.as_slice())?;
     Ok(Listed {
         offer: Offer {
             kind: place.kind,
-            children: children.len(),
+            children: raw.children.len(),
             size,
             later: place.later,
             earlier: place.earlier,
         },
         act: raw.act,
-        raw: formulas,
+        raw: raw.children,
         normal,
     })
 }
@@ -155,12 +153,12 @@ fn made(
     store: &Store,
     kept: &mut Sizes,
     place: Place,
-    raw: &RawOffer,
+    raw: RawOffer,
 ) -> Result<Listed, AllocError>
-    requires has { HasRaw store.now raw.now }
+    requires has { HasRaw store.now raw }
     requires knows { KnowsSizes store.now kept.old }
     ensures listed { IfOk result (IsListed store.now) }
-    ensures tree { IfOk result (λ l. listed_of store.now l ≡ offer_at (kind_of place.kind) place.later place.earlier (raw_of store.now raw.now)) }
+    ensures tree { IfOk result (λ l. listed_of store.now l ≡ offer_at (kind_of place.kind) place.later place.earlier (raw_of store.now raw)) }
     ensures knows { OnOk result (KnowsSizes store.now kept.new) }
 {
     let size = children_size(store, kept, raw.children.as_slice())?;
@@ -171,42 +169,44 @@ fn made(
 fn put(
     alloc: Global,
     store: &Store,
-    forms: &[FormId],
+    found: &FormSet,
     place: Place,
-    raw: &RawOffer,
+    raw: RawOffer,
     listing: &mut Listing,
 ) -> Result<(), AllocError>
-    requires has { HasForms store.now forms.now }
-    requires has_raw { HasRaw store.now raw.now }
+    requires has { HasForms store.now found.now }
+    requires has_raw { HasRaw store.now raw }
     requires knows { KnowsSizes store.now listing.old.sizes }
-    ensures listed { OnOk result ((os : List offers.Offer) → AreListed store.now os listing.old.offers → AreListed store.now (os ++ offers_at (forms_of store.now forms.now) (kind_of place.kind) place.later place.earlier (raw_of store.now raw.now ∷ [])) listing.new.offers) }
+    ensures listed { OnOk result ((os : List offers.Offer) → AreListed store.now os listing.old.offers → AreListed store.now (os ++ offers_at (forms_of store.now found.now) (kind_of place.kind) place.later place.earlier (raw_of store.now raw ∷ [])) listing.new.offers) }
     ensures knows { OnOk result (KnowsSizes store.now listing.new.sizes) }
 {
-    if has_some(store, forms, raw.children.as_slice()) {
+    if has_some(store, found, raw.children.as_slice()) {
         return Ok(());
     }
     let offer = made(alloc, store, &mut listing.sizes, place, raw)?;
     listing.offers.push(offer)
 }
 
-/// Lists raw offers of one place in order, each unless one of its children has all its formulas on the branch. The one
-/// error is want of memory.
+/// Lists raw offers of one place in order, each unless one of its children has all its formulas among those found. The
+/// one error is want of memory.
 pub(crate) fn put_all(
     alloc: Global,
     store: &Store,
-    forms: &[FormId],
+    found: &FormSet,
     place: Place,
-    raws: &[RawOffer],
+    raws: RawOffers,
     listing: &mut Listing,
 ) -> Result<(), AllocError>
-    requires has { HasForms store.now forms.now }
-    requires has_raws { HasRaws store.now raws.now }
+    requires has { HasForms store.now found.now }
+    requires has_raws { HasRaws store.now raws }
     requires knows { KnowsSizes store.now listing.old.sizes }
-    ensures listed { OnOk result ((os : List offers.Offer) → AreListed store.now os listing.old.offers → AreListed store.now (os ++ offers_at (forms_of store.now forms.now) (kind_of place.kind) place.later place.earlier (map (raw_of store.now) raws.now)) listing.new.offers) }
+    ensures listed { OnOk result ((os : List offers.Offer) → AreListed store.now os listing.old.offers → AreListed store.now (os ++ offers_at (forms_of store.now found.now) (kind_of place.kind) place.later place.earlier (map (raw_of store.now) raws)) listing.new.offers) }
     ensures knows { OnOk result (KnowsSizes store.now listing.new.sizes) }
 {
-    for raw in raws {
-        put(alloc, store, forms, place, raw, listing)?;
+    let mut raws = raws;
+    while !raws.is_empty() {
+        let raw = raws.remove(0);
+        put(alloc, store, found, place, raw, listing)?;
     }
     Ok(())
 }

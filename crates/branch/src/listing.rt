@@ -17,9 +17,11 @@ ghost use Rattle.branch.specs.Offers.{AreOffers, HasFault};
 ghost use Rattle.branch.specs.Listed.{EachListed, IfStop, listed_of};
 ghost use Rattle.branch.specs.Left.{OwnAt, SingleAt, PairAt, PairsTo, OthersAt, PlaceAt, first_kind, own_kind as spec_own_kind};
 ghost use Rattle.branch.specs.Listing.{AddsPart, AreNumbered, IsTooDeep};
+ghost use Rattle.branch.specs.Lookup.{IsLookup};
 ghost use Rattle.branch.specs.Sizes.{KnowsSizes};
 
 use crate::listed::{Listed, Listing, Place, put_all};
+use crate::lookup::{Lookup, lookup_of, opposed};
 use crate::stop::BranchStop;
 use choosers::Kind;
 use equality_rules::{pair_offers, single_offers};
@@ -98,11 +100,13 @@ fn list_own(
     store: &mut Store,
     params: &mut Params,
     forms: &[FormId],
+    lookup: &Lookup,
     later: usize,
     listing: &mut Listing,
 ) -> Result<(), BranchStop>
     requires within { later < length forms.now }
     requires has { HasForms store.old forms.now }
+    requires lookup { IsLookup store.old forms.now lookup.now }
     requires numbered { HasForms store.old params.old }
     requires known { AreNumbered (forms_of store.old params.old) (forms_of store.old forms.now) }
     requires knows { KnowsSizes store.old listing.old.sizes }
@@ -119,7 +123,7 @@ fn list_own(
         later,
         earlier: None,
     };
-    Ok(put_all(alloc, store, forms, place, raws.as_slice(), listing)?)
+    Ok(put_all(alloc, store, &lookup.found, place, raws, listing)?)
 }
 
 // Lists what the formula at a place gives beyond its rule.
@@ -129,11 +133,13 @@ fn list_single(
     params: &Params,
     symbols: &Symbols,
     forms: &[FormId],
+    lookup: &Lookup,
     later: usize,
     listing: &mut Listing,
 ) -> Result<(), BranchStop>
     requires within { later < length forms.now }
     requires has { HasForms store.old forms.now }
+    requires lookup { IsLookup store.old forms.now lookup.now }
     requires numbered { HasForms store.old params.now }
     requires knows { KnowsSizes store.old listing.old.sizes }
     ensures adds { OnOk result (AddsPart (SingleAt later) store.old store.new (map symbol_tree symbols.now) params.now forms.now listing.old.offers listing.new.offers) }
@@ -147,7 +153,7 @@ fn list_single(
         later,
         earlier: None,
     };
-    Ok(put_all(alloc, store, forms, place, raws.as_slice(), listing)?)
+    Ok(put_all(alloc, store, &lookup.found, place, raws, listing)?)
 }
 
 // Lists what the formulas at two places give together.
@@ -157,12 +163,14 @@ fn list_pair(
     params: &Params,
     symbols: &Symbols,
     forms: &[FormId],
+    lookup: &Lookup,
     later: usize,
     earlier: usize,
     listing: &mut Listing,
 ) -> Result<(), BranchStop>
     requires within { later < length forms.now }
     requires has { HasForms store.old forms.now }
+    requires lookup { IsLookup store.old forms.now lookup.now }
     requires numbered { HasForms store.old params.now }
     requires earlier { earlier < length forms.now }
     requires knows { KnowsSizes store.old listing.old.sizes }
@@ -178,21 +186,23 @@ fn list_pair(
         later,
         earlier: Some(earlier),
     };
-    Ok(put_all(alloc, store, forms, place, raws.as_slice(), listing)?)
+    Ok(put_all(alloc, store, &lookup.found, place, raws, listing)?)
 }
 
-// Lists what the formula at a place gives with each earlier one, by their places.
+// Lists what the formula at a place gives with each earlier one, by their places. Only opposites give something.
 fn list_pairs(
     alloc: Global,
     store: &mut Store,
     params: &Params,
     symbols: &Symbols,
     forms: &[FormId],
+    lookup: &Lookup,
     later: usize,
     listing: &mut Listing,
 ) -> Result<(), BranchStop>
     requires within { later < length forms.now }
     requires has { HasForms store.old forms.now }
+    requires lookup { IsLookup store.old forms.now lookup.now }
     requires numbered { HasForms store.old params.now }
     requires knows { KnowsSizes store.old listing.old.sizes }
     ensures adds { OnOk result (AddsPart (PairsTo later later) store.old store.new (map symbol_tree symbols.now) params.now forms.now listing.old.offers listing.new.offers) }
@@ -200,9 +210,13 @@ fn list_pairs(
     ensures knows { OnOk result (KnowsSizes store.new listing.new.sizes) }
     ensures kept { Extends store.old store.new }
 {
-    for earlier in 0..later {
+    let places = opposed(store, forms, lookup, later);
+    for earlier in places {
+        if *earlier >= later {
+            return Ok(());
+        }
         list_pair(
-            alloc, store, params, symbols, forms, later, earlier, listing,
+            alloc, store, params, symbols, forms, lookup, later, *earlier, listing,
         )?;
     }
     Ok(())
@@ -215,11 +229,13 @@ fn list_others(
     params: &Params,
     symbols: &Symbols,
     forms: &[FormId],
+    lookup: &Lookup,
     later: usize,
     listing: &mut Listing,
 ) -> Result<(), BranchStop>
     requires within { later < length forms.now }
     requires has { HasForms store.old forms.now }
+    requires lookup { IsLookup store.old forms.now lookup.now }
     requires numbered { HasForms store.old params.now }
     requires knows { KnowsSizes store.old listing.old.sizes }
     ensures adds { OnOk result (AddsPart (OthersAt later) store.old store.new (map symbol_tree symbols.now) params.now forms.now listing.old.offers listing.new.offers) }
@@ -227,8 +243,8 @@ fn list_others(
     ensures knows { OnOk result (KnowsSizes store.new listing.new.sizes) }
     ensures kept { Extends store.old store.new }
 {
-    list_single(alloc, store, params, symbols, forms, later, listing)?;
-    list_pairs(alloc, store, params, symbols, forms, later, listing)
+    list_single(alloc, store, params, symbols, forms, lookup, later, listing)?;
+    list_pairs(alloc, store, params, symbols, forms, lookup, later, listing)
 }
 
 // Lists all that the formula at a place gives.
@@ -238,11 +254,13 @@ fn list_place(
     params: &mut Params,
     symbols: &Symbols,
     forms: &[FormId],
+    lookup: &Lookup,
     later: usize,
     listing: &mut Listing,
 ) -> Result<(), BranchStop>
     requires within { later < length forms.now }
     requires has { HasForms store.old forms.now }
+    requires lookup { IsLookup store.old forms.now lookup.now }
     requires numbered { HasForms store.old params.old }
     requires known { AreNumbered (forms_of store.old params.old) (forms_of store.old forms.now) }
     requires knows { KnowsSizes store.old listing.old.sizes }
@@ -252,8 +270,8 @@ fn list_place(
     ensures kept { Extends store.old store.new }
     ensures params { params.new ≡ params.old }
 {
-    list_own(alloc, store, params, forms, later, listing)?;
-    list_others(alloc, store, params, symbols, forms, later, listing)
+    list_own(alloc, store, params, forms, lookup, later, listing)?;
+    list_others(alloc, store, params, symbols, forms, lookup, later, listing)
 }
 
 /// The offers of a branch, by the place of the formula that gives them, and for two by that of the later one and then
@@ -281,9 +299,19 @@ pub(crate) fn listed_offers(
     ensures kept { Extends store.old store.new }
     ensures params { params.new ≡ params.old }
 {
+    let lookup = lookup_of(alloc, store, forms)?;
     let mut listing = Listing::new(alloc);
     for later in 0..forms.len() {
-        list_place(alloc, store, params, symbols, forms, later, &mut listing)?;
+        list_place(
+            alloc,
+            store,
+            params,
+            symbols,
+            forms,
+            &lookup,
+            later,
+            &mut listing,
+        )?;
     }
     Ok(listing.offers)
 }

@@ -234,8 +234,29 @@ fn equal_size(
     Ok(ty.saturating_add(left).saturating_add(right))
 }
 
+// Whether a formula is measured as fast as its size is found: it is a constant, a negation, or an atom without arguments.
+fn is_light(store: &Store, id: FormId) -> bool
+    requires { HasForm store.now id }
+{
+    match store.form_node(id) {
+        FormNode::True | FormNode::False | FormNode::Not(_) => true,
+        FormNode::Atom(_, types, terms) => {
+            types.as_slice().is_empty() && terms.as_slice().is_empty()
+        }
+        FormNode::Equal(_, _, _)
+        | FormNode::And(_, _)
+        | FormNode::Or(_, _)
+        | FormNode::Imp(_, _)
+        | FormNode::Iff(_, _)
+        | FormNode::All(_, _)
+        | FormNode::Ex(_, _)
+        | FormNode::AllType(_)
+        | FormNode::ExType(_) => false,
+    }
+}
+
 /// The size of a formula: the number of its constructors, those of its types and terms too. Each formula is measured
-/// once. The one error is want of memory.
+/// once, but for light ones. The one error is want of memory.
 #[cycle(form_size)]
 pub(crate) fn form_size(store: &Store, kept: &mut Sizes, id: FormId) -> Result<u64, AllocError>
     requires has { HasForm store.now id }
@@ -243,6 +264,9 @@ pub(crate) fn form_size(store: &Store, kept: &mut Sizes, id: FormId) -> Result<u
     ensures value { IfOk result (λ n. n ≡ capped (measure.size (form_of store.now id))) }
     ensures knows { OnOk result (KnowsSizes store.now kept.new) }
 {
+    if is_light(store, id) {
+        return new_size(store, kept, id);
+    }
     if let Some(size) = kept_form(kept, id) {
         return Ok(size);
     }

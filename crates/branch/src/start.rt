@@ -15,7 +15,8 @@ ghost use Rattle.branch.specs.Stepped.{IsStarted, IfStopped};
 ghost use Rattle.branch.specs.Roots.{AreRoots, IsOneLeaf, MayBegin, premise_forms, refuted_forms};
 
 use crate::closing::closing_pair;
-use crate::entering::{add_all, number_all};
+use crate::entering::number_all;
+use crate::form_set::FormSet;
 use crate::node::Node;
 use crate::tableau::{Branch, Current, Open, Rooted, Tableau};
 use crate::why::Why;
@@ -129,22 +130,24 @@ pub(crate) fn root_forms(
     ensures forms { IfOk result (λ all. forms_of store.now all ≡ extend [] (forms_of store.now (map (λ r. r.normal) roots.now))) }
     ensures has { IfOk result (HasForms store.now) }
 {
-    let mut forms = FormIds::new(alloc);
+    let mut forms = FormSet::with_room(alloc, roots.len())?;
     for root in roots {
-        add_all(store, &mut forms, &[root.normal])?;
+        forms.add(store, root.normal)?;
     }
-    Ok(forms)
+    FormIds::from_slice(alloc, forms.forms())
 }
 
-/// The branch of these formulas.
-pub(crate) fn branch_of(store: &Store, forms: FormIds) -> Branch
-    requires { HasForms store.now forms }
-    ensures forms { result.forms ≡ forms }
-    ensures closing { option_map (closing_of store.now) result.closing ≡ closing (forms_of store.now forms) }
-    ensures has_closing { IfSome result.closing (HasClosing store.now) }
+// The branch that a tableau begins with.
+fn root_branch(alloc: Global, store: &Store, roots: &[Rooted]) -> Result<Branch, AllocError>
+    requires { HasForms store.now (map (λ r. r.normal) roots.now) }
+    ensures forms { IfOk result (λ b. forms_of store.now b.forms ≡ extend [] (forms_of store.now (map (λ r. r.normal) roots.now))) }
+    ensures has { IfOk result (λ b. HasForms store.now b.forms) }
+    ensures closing { IfOk result (λ b. option_map (closing_of store.now) b.closing ≡ closing (forms_of store.now b.forms)) }
+    ensures has_closing { IfOk result (λ b. IfSome b.closing (HasClosing store.now)) }
 {
-    let closing = closing_pair(store, forms.as_slice());
-    Branch { forms, closing }
+    let forms = root_forms(alloc, store, roots)?;
+    let closing = closing_pair(alloc, store, forms.as_slice())?;
+    Ok(Branch { forms, closing })
 }
 
 impl Tableau<Open> {
@@ -200,10 +203,9 @@ fn at_root(
     requires { MayBegin symbols rewrites store roots }
     ensures { IfOk result (IsOneLeaf symbols rewrites store roots) }
 {
-    let forms = root_forms(alloc, &store, roots.as_slice())?;
+    let branch = root_branch(alloc, &store, roots.as_slice())?;
     let mut params = Params::new(alloc);
-    number_all(&store, &mut params, forms.as_slice())?;
-    let branch = branch_of(&store, forms);
+    number_all(&store, &mut params, branch.forms.as_slice())?;
     Ok(Tableau {
         alloc,
         symbols,

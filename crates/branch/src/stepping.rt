@@ -1,4 +1,4 @@
-ghost use Rattle.std.specs.Prelude.{◌≡◌, ◌≢◌, ◌<◌, ◌++◌, [], ◌∷◌, None, Some, map, length, slice_get, OnOk, OnErr, IfOk, IfErr};
+ghost use Rattle.std.specs.Prelude.{◌≡◌, ◌≢◌, ◌<◌, ◌≤◌, ◌++◌, [], ◌∷◌, None, Some, map, length, take, slice_get, OnOk, OnErr, IfOk, IfErr};
 ghost use Rattle.std.specs.Borrow.{sem};
 ghost use Rattle.zm_logic.specs.View.{symbol_tree};
 ghost use Rattle.term_store.specs.Open.{HasRedex, redex_of};
@@ -9,7 +9,7 @@ ghost use Rattle.branch.specs.Branch.{closing, extend};
 ghost use Rattle.branch.specs.Ids.{HasNode, child_ids, node_ids};
 ghost use Rattle.branch.specs.Normal.{Fault};
 ghost use Rattle.branch.specs.Offers.{HasFault};
-ghost use Rattle.branch.specs.Path.{IsFirst, along, extend_all, put};
+ghost use Rattle.branch.specs.Path.{IsFirst, LeadsBelow, above as spec_above, along, extend_all, put};
 ghost use Rattle.branch.specs.Setting.{Setting};
 ghost use Rattle.branch.specs.Tableau as spec;
 ghost use Rattle.branch.specs.Listed.{IfStop};
@@ -19,15 +19,16 @@ ghost use Rattle.branch.specs.Stepped.{IsOpen, IsUnclosed, AtLeaf, HasOffer, IsA
 ghost use Rattle.branch.specs.Stepping.{AreOffersOf, ClosesCurrent, GoesTo, HasListed, IsLeaf, IsListedAt, IsListing, closed_ids, open_leaf, open_leaves, step_ids};
 
 use crate::along::{add_along, brought};
+use crate::closing::closing_after;
 use crate::entering::{add_all, number_all};
 use crate::listed::Listed;
 use crate::listing::listed_offers;
 use crate::next::next_path;
 use crate::node::{Child, ClosingPair, Node};
 use crate::place::put_at;
-use crate::start::{branch_of, root_forms};
+use crate::start::root_forms;
 use crate::stop::BranchStop;
-use crate::tableau::{Current, Offered, Open, Rooted, Tableau};
+use crate::tableau::{Branch, Current, Offered, Open, Rooted, Tableau};
 use choosers::Offer;
 use param_store::Params;
 use sqlite_items::Items;
@@ -169,12 +170,15 @@ fn note(
     }
 }
 
-// A leaf with this branch, without offers.
-fn leaf_of(store: &Store, path: Items<usize>, forms: FormIds) -> Current
-    requires { HasForms store.now forms }
+// A leaf with this branch, without offers. Nothing closes the formulas before `from`.
+fn leaf_of(store: &Store, path: Items<usize>, forms: FormIds, from: usize) -> Current
+    requires has { HasForms store.now forms }
+    requires within { from ≤ length forms }
+    requires unclosed { closing (forms_of store.now (take from forms)) ≡ None }
     ensures { IsLeaf store.now path (forms_of store.now forms) result }
 {
-    let branch = branch_of(store, forms);
+    let closing = closing_after(store, forms.as_slice(), from);
+    let branch = Branch { forms, closing };
     Current {
         path,
         branch,
@@ -191,14 +195,41 @@ fn leaf_below(
 ) -> Result<Current, AllocError>
     requires has { HasForms store.now current.now.branch.forms }
     requires has_first { HasForms store.now first.now }
+    requires unclosed { closing (forms_of store.now current.now.branch.forms) ≡ None }
     ensures { IfOk result (IsLeaf store.now (current.now.path ++ 0 ∷ []) (extend (forms_of store.now current.now.branch.forms) (forms_of store.now first.now))) }
 {
     let path = down(alloc, current.path.as_slice())?;
-    let forms = extended(alloc, store, current.branch.forms.as_slice(), first)?;
-    Ok(leaf_of(store, path, forms))
+    let branch = current.branch.forms.as_slice();
+    let forms = extended(alloc, store, branch, first)?;
+    Ok(leaf_of(store, path, forms, branch.len()))
 }
 
-// The leaf to which a path leads.
+// The path to the node above the one to which a path leads.
+fn above(path: &[usize]) -> &[usize]
+    ensures { result.now ≡ spec_above path.now }
+{
+    &path[..path.len().saturating_sub(1)]
+}
+
+// The branch of the node above the one to which a path leads.
+fn branch_above(
+    alloc: Global,
+    store: &Store,
+    roots: &[Rooted],
+    tree: &Node,
+    path: &[usize],
+) -> Result<FormIds, AllocError>
+    requires has_roots { HasForms store.now (map (λ r. r.normal) roots.now) }
+    requires has_node { HasNode store.now (node_ids tree.now) }
+    ensures forms { IfOk result (λ all. forms_of store.now all ≡ extend_all (extend [] (forms_of store.now (map (λ r. r.normal) roots.now))) (lists_of store.now (along (spec_above path.now) (node_ids tree.now)))) }
+    ensures has { IfOk result (HasForms store.now) }
+{
+    let mut forms = root_forms(alloc, store, roots)?;
+    add_along(store, &mut forms, tree, above(path))?;
+    Ok(forms)
+}
+
+// The leaf to which a path leads, below a branch that isn't closed.
 fn leaf_along(
     alloc: Global,
     store: &Store,
@@ -208,11 +239,13 @@ fn leaf_along(
 ) -> Result<Current, AllocError>
     requires has_roots { HasForms store.now (map (λ r. r.normal) roots.now) }
     requires has_node { HasNode store.now (node_ids tree.now) }
+    requires leads { LeadsBelow store.now (map (λ r. r.normal) roots.now) path (node_ids tree.now) }
     ensures { IfOk result (IsLeaf store.now path (extend_all (extend [] (forms_of store.now (map (λ r. r.normal) roots.now))) (lists_of store.now (along path (node_ids tree.now))))) }
 {
-    let mut forms = root_forms(alloc, store, roots)?;
-    add_along(store, &mut forms, tree, path.as_slice())?;
-    Ok(leaf_of(store, path, forms))
+    let branch = branch_above(alloc, store, roots, tree, path.as_slice())?;
+    let new = brought(tree, path.as_slice());
+    let forms = extended(alloc, store, branch.as_slice(), new)?;
+    Ok(leaf_of(store, path, forms, branch.len()))
 }
 
 // The offer of a leaf with this number.

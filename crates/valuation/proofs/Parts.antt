@@ -1,7 +1,8 @@
 -- The atoms of a problem and those of a branch, part by part.
-use Rattle.std.proofs.Common.{◌≡◌, ℕ, ◌+◌, ◌<◌, Bool, true, false, cond, refl, ap, sym, ◌∙◌, List, [], ◌∷◌, ◌++◌, ◌⊎◌, inl, inr, map, filter, take, length, get_or, flat_map, append-nil}
+use Rattle.std.proofs.Common.{◌≡◌, ℕ, ◌+◌, ◌<◌, Bool, true, false, ◌||◌, refl, ap, sym, ◌∙◌, List, [], ◌∷◌, ◌++◌, ◌⊎◌, inl, inr, map, filter, take, length, get_or, flat_map, append-nil}
 use Rattle.std.proofs.lemmas.Grind.{flat_map-append}
 use Rattle.std.proofs.lemmas.List.{take_more, map-append}
+use Rattle.std.proofs.lemmas.List.Elements.{filter-append}
 use Rattle.zm_logic.specs.Tree as tree
 use Rattle.zm_logic.specs.View.{form_tree, premise_tree, step_of_form}
 use Rattle.zm_logic.specs.declared.problem.Premise.{Premise}
@@ -12,7 +13,10 @@ use Rattle.term_store.specs.declared.ids.FormId.{FormId}
 use Rattle.term_store.specs.Trees.{Tables, form_of}
 use Rattle.param_store.specs.View.{forms_of as trees_of}
 use Rattle.branch.specs.Branch.{add, extend}
-use Rattle.valuation.specs.Valuation.{is_atom, with_atom, atoms}
+use Rattle.branch.proofs.Found.{has_added, has_both}
+use Rattle.branch.proofs.Held.{forms_front}
+use Rattle.zm_logic.specs.Same.{same, has}
+use Rattle.valuation.specs.Valuation.{is_atom, atoms, value_on}
 
 pub front : {A B : Type 0} (f : A → B) (xs : List A) (i : ℕ) (x : A) → i < length xs → x ≡ get_or xs i x → map f (take (i + 1) xs) ≡ map f (take i xs) ++ f x ∷ []
 front f xs i x l e = ap (map f) (take_more xs i x l) ∙ (map-append f (take i xs) (get_or xs i x ∷ []) ∙ rw (← e) refl)
@@ -62,26 +66,31 @@ all_atoms ps c =
     ∙ (ap (extend []) (sym (flat_map-append atoms fs (c ∷ [])))
     ∙ ap (λ gs. extend [] (flat_map atoms (gs ++ c ∷ []))) (sym (forms_of ps))))
 
--- the atoms among one formula more
-filter_more : (fs : List tree.Form) (f : tree.Form) → filter is_atom (fs ++ f ∷ []) ≡ with_atom (filter is_atom fs) f
-filter_more [] f = go (is_atom f)
-  where
-    go : (v : Bool) → cond v (f ∷ []) [] ≡ cond v ([] ++ f ∷ []) []
-    go true = refl
-    go false = refl
-filter_more (g ∷ fs) f = go (is_atom g) (is_atom f) (filter_more fs f)
-  where
-    go : (v w : Bool) → filter is_atom (fs ++ f ∷ []) ≡ cond w (filter is_atom fs ++ f ∷ []) (filter is_atom fs)
-        → cond v (g ∷ filter is_atom (fs ++ f ∷ [])) (filter is_atom (fs ++ f ∷ []))
-        ≡ cond w (cond v (g ∷ filter is_atom fs) (filter is_atom fs) ++ f ∷ []) (cond v (g ∷ filter is_atom fs) (filter is_atom fs))
-    go true true e = ap (λ xs. g ∷ xs) e
-    go true false e = ap (λ xs. g ∷ xs) e
-    go false true e = e
-    go false false e = e
-
+-- the distinct atoms among one formula more
 pub more_among : (s : Tables) (ids : List FormId) (i : ℕ) (d : FormId) → i < length ids
-    → filter is_atom (trees_of s (take (i + 1) ids)) ≡ with_atom (filter is_atom (trees_of s (take i ids))) (form_of s (get_or ids i d))
+    → extend (extend [] (filter is_atom (trees_of s (take i ids)))) (filter is_atom (form_of s (get_or ids i d) ∷ []))
+    ≡ extend [] (filter is_atom (trees_of s (take (i + 1) ids)))
 more_among s ids i d l =
-    ap (λ xs. filter is_atom (trees_of s xs)) (take_more ids i d l)
-    ∙ (ap (filter is_atom) (map-append (form_of s) (take i ids) (get_or ids i d ∷ []))
-    ∙ filter_more (trees_of s (take i ids)) (form_of s (get_or ids i d)))
+    extend_append [] (filter is_atom (trees_of s (take i ids))) (filter is_atom (form_of s (get_or ids i d) ∷ []))
+    ∙ ap (extend []) (sym (filter-append is_atom (trees_of s (take i ids)) (form_of s (get_or ids i d) ∷ [])))
+    ∙ ap (λ fs. extend [] (filter is_atom fs)) (sym (forms_front s ids i d l))
+
+-- the distinct ones of some formulas are these, as far as it can be told
+has_extended : (b fs : List tree.Form) (x : tree.Form) → has (extend b fs) x ≡ (has b x || has fs x)
+has_extended b [] x = or_none (has b x)
+  where
+    or_none : (v : Bool) → v ≡ (v || false)
+    or_none true = refl
+    or_none false = refl
+has_extended b (f ∷ fs) x =
+    has_extended (add b f) fs x ∙ ap (λ v. v || has fs x) (has_added b f x ∙ has_both b (f ∷ []) x) ∙ either (has b x) (same f x) (has fs x)
+  where
+    either : (u v w : Bool) → ((u || (v || false)) || w) ≡ (u || (v || w))
+    either true v w = refl
+    either false true w = refl
+    either false false w = refl
+
+pub values_extended : (fs gs : List tree.Form) → map (value_on (extend [] fs)) gs ≡ map (value_on fs) gs
+values_extended fs [] = refl
+values_extended fs (g ∷ gs) =
+    ap (λ v. record { atom = g; truth = v } ∷ map (value_on (extend [] fs)) gs) (has_extended [] fs g) ∙ ap (λ vs. value_on fs g ∷ vs) (values_extended fs gs)

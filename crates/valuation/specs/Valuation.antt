@@ -1,5 +1,5 @@
 -- The valuation that a branch gives.
-use Rattle.std.specs.Prelude.{Bool, true, false, cond, List, [], ◌∷◌, ◌++◌, map, flat_map}
+use Rattle.std.specs.Prelude.{Bool, true, false, List, [], ◌∷◌, ◌++◌, map, flat_map}
 use Rattle.zm_logic.specs.Tree.{Form, Problem}
 use Rattle.zm_logic.specs.Same.{has}
 use Rattle.zm_logic.specs.Truth.{Valued}
@@ -15,10 +15,6 @@ atoms f = []
 abbrev pub is_atom : Form → Bool
 is_atom (Form.atom p ts us) = true
 is_atom f = false
-
--- a list with a formula behind it, if that is an atom
-abbrev pub with_atom : List Form → Form → List Form
-with_atom fs f = cond (is_atom f) (fs ++ f ∷ []) fs
 
 -- the premises in order, and the conjecture
 abbrev pub formulas : Problem → List Form

@@ -5,4 +5,4 @@ use Rattle.branch.proofs.listed.has_some.Given as goal
 
 -- none of the children before the index has all its formulas on the branch
 abbrev pub invariant-loop-child : goal.invariant-loop-child
-invariant-loop-child l = some_from l.store (forms_of l.store l.branch) 0 l.children ≡ some_from l.store (forms_of l.store l.branch) l.child-index l.children
+invariant-loop-child l = some_from l.store (forms_of l.store l.found) 0 l.children ≡ some_from l.store (forms_of l.store l.found) l.child-index l.children

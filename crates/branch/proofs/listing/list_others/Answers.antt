@@ -6,11 +6,16 @@ use Rattle.param_store.proofs.Stay.{forms_still}
 use Rattle.branch.specs.Left.{PairsTo, OthersAt}
 use Rattle.branch.specs.Listed.{IfStop}
 use Rattle.branch.specs.Listing.{IsTooDeep}
+use Rattle.branch.proofs.Found.{lookup_stays}
 use Rattle.branch.proofs.Parted.{others_add, others_deep, single_stops}
 use Rattle.branch.proofs.listing.list_others.Goals as goal
 
 pub list_pairs-requires-clause-has : goal.list_pairs-requires-clause-has
 list_pairs-requires-clause-has c = forms_still c.args.store.now c.list_single.new.store c.in_ok-list_single.ensures.kept c.args.forms.now c.requires.has
+
+pub list_pairs-requires-clause-lookup : goal.list_pairs-requires-clause-lookup
+list_pairs-requires-clause-lookup c =
+    lookup_stays c.args.store.now c.list_single.new.store c.in_ok-list_single.ensures.kept c.args.forms.now c.args.lookup.now c.requires.has c.requires.lookup
 
 pub list_pairs-requires-clause-numbered : goal.list_pairs-requires-clause-numbered
 list_pairs-requires-clause-numbered c = forms_still c.args.store.now c.list_single.new.store c.in_ok-list_single.ensures.kept c.args.params.now c.requires.numbered

@@ -1,13 +1,13 @@
-use Rattle.std.proofs.Common.{None, get_or, map, sym, ap, subst, ◌∙◌}
+use Rattle.std.proofs.Common.{None, get_or, map, ap, ◌∙◌}
 use Rattle.std.proofs.lemmas.Result.{err_from_is_err_and}
 use Rattle.term_store.specs.Trees.{form_of}
 use Rattle.term_store.specs.declared.ids.FormId.{FormId}
 use Rattle.term_store.proofs.Kept.{still_form}
-use Rattle.param_store.specs.View.{forms_of, raw_of, HasRaws}
-use Rattle.param_store.proofs.Stay.{forms_still}
+use Rattle.param_store.specs.View.{forms_of, raw_of}
 use Rattle.branch.specs.Ids.{kind_of}
-use Rattle.branch.proofs.Adding.{Puts, own_adds, own_deep}
+use Rattle.branch.proofs.Adding.{found_puts, own_adds, own_deep}
 use Rattle.branch.proofs.OfferKinds.{stands_at}
+use Rattle.branch.proofs.Found.{lookup_stays}
 use Rattle.branch.proofs.Sizing.{sizes_stay}
 use Rattle.branch.proofs.Useful.{form_at_place}
 use Rattle.branch.proofs.listing.list_own.Goals as goal
@@ -32,10 +32,10 @@ own_kind-requires c =
     }
 
 pub put_all-requires-clause-has : goal.put_all-requires-clause-has
-put_all-requires-clause-has c = forms_still c.args.store.now c.own_raws.new.store c.in_ok-raws.ensures.kept c.args.forms.now c.requires.has
+put_all-requires-clause-has c = (lookup_stays c.args.store.now c.own_raws.new.store c.in_ok-raws.ensures.kept c.args.forms.now c.args.lookup.now c.requires.has c.requires.lookup).has_found
 
 pub put_all-requires-clause-has_raws : goal.put_all-requires-clause-has_raws
-put_all-requires-clause-has_raws c = subst (HasRaws c.own_raws.new.store) (sym c.as_slice-2.ensures) c.in_ok-raws.ensures.offers.has
+put_all-requires-clause-has_raws c = c.in_ok-raws.ensures.offers.has
 
 pub put_all-requires-clause-knows : goal.put_all-requires-clause-knows
 put_all-requires-clause-knows c = sizes_stay c.args.store.now c.own_raws.new.store c.in_ok-raws.ensures.kept c.args.listing.now.sizes c.requires.knows
@@ -53,7 +53,7 @@ returns-clause-adds c = λ symbols.
     let are = c.in_ok-raws.ensures.offers in
     let k = kind_of c.own_kind.result in
     let kind = c.own_kind.ensures (forms_of v params) (ap (map (raw_of v)) c.as_slice.ensures ∙ are.offers) in
-    let put = subst (λ rs. Puts u v e symbols params forms c.requires.has c.requires.numbered k j None rs old new) c.as_slice-2.ensures
+    let put = found_puts u v e symbols params forms c.requires.has c.requires.numbered c.args.lookup.now c.requires.lookup k j None c.in_ok-raws.raws old new
     c.in_ok-put_all.ensures.listed in
     own_adds u v e symbols params forms c.requires.has c.requires.numbered j none c.requires.within c.in_ok-raws.raws old new are c.in_ok-raws.ensures.bounded k kind
     put

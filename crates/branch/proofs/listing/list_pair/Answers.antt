@@ -1,11 +1,10 @@
-use Rattle.std.proofs.Common.{Some, map, sym, subst}
+use Rattle.std.proofs.Common.{Some, map}
 use Rattle.std.proofs.lemmas.Result.{err_from_is_err_and}
 use Rattle.zm_logic.specs.View.{symbol_tree}
 use Rattle.term_store.specs.declared.ids.FormId.{FormId}
-use Rattle.param_store.specs.View.{HasRaws}
-use Rattle.param_store.proofs.Stay.{forms_still}
 use Rattle.branch.specs.BranchOffers.{Kind}
-use Rattle.branch.proofs.Adding.{Puts, pair_adds, pair_deep}
+use Rattle.branch.proofs.Adding.{found_puts, pair_adds, pair_deep}
+use Rattle.branch.proofs.Found.{lookup_stays}
 use Rattle.branch.proofs.Sizing.{sizes_stay}
 use Rattle.branch.proofs.Useful.{form_at_place}
 use Rattle.branch.proofs.listing.list_pair.Goals as goal
@@ -20,10 +19,10 @@ pub pair_offers-requires-clause-has_later : goal.pair_offers-requires-clause-has
 pair_offers-requires-clause-has_later c = form_at_place c.args.store.now c.args.forms.now c.args.later none c.requires.within c.requires.has
 
 pub put_all-requires-clause-has : goal.put_all-requires-clause-has
-put_all-requires-clause-has c = forms_still c.args.store.now c.pair_offers.new.store c.in_ok-raws.ensures.kept c.args.forms.now c.requires.has
+put_all-requires-clause-has c = (lookup_stays c.args.store.now c.pair_offers.new.store c.in_ok-raws.ensures.kept c.args.forms.now c.args.lookup.now c.requires.has c.requires.lookup).has_found
 
 pub put_all-requires-clause-has_raws : goal.put_all-requires-clause-has_raws
-put_all-requires-clause-has_raws c = subst (HasRaws c.pair_offers.new.store) (sym c.as_slice.ensures) c.in_ok-raws.ensures.offers.3.has
+put_all-requires-clause-has_raws c = c.in_ok-raws.ensures.offers.3.has
 
 pub put_all-requires-clause-knows : goal.put_all-requires-clause-knows
 put_all-requires-clause-knows c = sizes_stay c.args.store.now c.pair_offers.new.store c.in_ok-raws.ensures.kept c.args.listing.now.sizes c.requires.knows
@@ -38,8 +37,8 @@ returns-clause-adds c =
     let forms = c.args.forms.now in
     let old = c.args.listing.now.offers in
     let new = c.put_all.new.listing.offers in
-    let put = subst (λ rs. Puts u v e symbols params forms c.requires.has c.requires.numbered Kind.instance c.args.later (Some c.args.earlier) rs old new)
-    c.as_slice.ensures c.in_ok-put_all.ensures.listed in
+    let put = found_puts u v e symbols params forms c.requires.has c.requires.numbered c.args.lookup.now c.requires.lookup Kind.instance c.args.later (Some c.args.earlier) c.in_ok-raws.raws old new
+    c.in_ok-put_all.ensures.listed in
     pair_adds u v e symbols params forms c.requires.has c.requires.numbered c.args.later none c.requires.within c.in_ok-raws.raws old new c.args.earlier
     c.requires.earlier c.in_ok-raws.ensures.offers c.in_ok-raws.ensures.bounded put
 

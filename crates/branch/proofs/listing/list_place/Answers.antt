@@ -7,11 +7,16 @@ use Rattle.param_store.proofs.Stay.{forms_still}
 use Rattle.branch.specs.Left.{OthersAt, PlaceAt}
 use Rattle.branch.specs.Listed.{IfStop}
 use Rattle.branch.specs.Listing.{AddsPart, IsTooDeep}
+use Rattle.branch.proofs.Found.{lookup_stays}
 use Rattle.branch.proofs.Parted.{place_adds, place_deep, own_stops}
 use Rattle.branch.proofs.listing.list_place.Goals as goal
 
 pub list_others-requires-clause-has : goal.list_others-requires-clause-has
 list_others-requires-clause-has c = forms_still c.args.store.now c.list_own.new.store c.in_ok-list_own.ensures.kept c.args.forms.now c.requires.has
+
+pub list_others-requires-clause-lookup : goal.list_others-requires-clause-lookup
+list_others-requires-clause-lookup c =
+    lookup_stays c.args.store.now c.list_own.new.store c.in_ok-list_own.ensures.kept c.args.forms.now c.args.lookup.now c.requires.has c.requires.lookup
 
 pub list_others-requires-clause-numbered : goal.list_others-requires-clause-numbered
 list_others-requires-clause-numbered c =

@@ -14,6 +14,7 @@ use Rattle.branch.specs.Listed.{IfStop, listed_of}
 use Rattle.branch.specs.Listing.{AddsPart, AreNumbered, IsTooDeep}
 use Rattle.branch.specs.Offers.{AreOffers, HasFault}
 use Rattle.branch.proofs.Adding.{if_stop}
+use Rattle.branch.proofs.Found.{lookup_stays}
 use Rattle.branch.proofs.Outcomes.{if_err_is}
 use Rattle.branch.proofs.Parted.{places_none, places_more, places_deep, all_listed, each_listed, stopped, IsFault}
 use Rattle.branch.proofs.Ready.{known_still}
@@ -33,6 +34,10 @@ loop-later-init c = record {
 
 pub list_place-requires-clause-has : goal.list_place-requires-clause-has
 list_place-requires-clause-has c = forms_still c.args.store.now c.loop-later.store c.loop-later.invariant.kept c.args.forms.now c.requires.has
+
+pub list_place-requires-clause-lookup : goal.list_place-requires-clause-lookup
+list_place-requires-clause-lookup c =
+    lookup_stays c.args.store.now c.loop-later.store c.loop-later.invariant.kept c.args.forms.now c.in_ok-lookup.lookup c.requires.has c.in_ok-lookup.ensures
 
 pub list_place-requires-clause-numbered : goal.list_place-requires-clause-numbered
 list_place-requires-clause-numbered c =

@@ -2,12 +2,17 @@ use Rattle.std.proofs.Common.{◌≡◌, [], Some, map, ap, sym, subst, ◌∙�
 use Rattle.param_store.specs.View.{HasForms, forms_of, lists_of}
 use Rattle.branch.specs.Branch.{extend}
 use Rattle.branch.specs.Ids.{Node, node_ids}
-use Rattle.branch.specs.Path.{put, along, brought, extend_all}
+use Rattle.branch.specs.Path.{LeadsBelow, put, along, brought, extend_all}
 use Rattle.branch.specs.Stepping.{IsLeaf}
 use Rattle.branch.specs.Tableau.{enter}
-use Rattle.branch.proofs.Ending.{end_closed, behind_kept}
+use Rattle.branch.proofs.Ending.{end_closed, behind_kept, leads_below}
 use Rattle.branch.proofs.Standing.{brought_has}
 use Rattle.branch.proofs.stepping.Tableau+Open.go_on.Goals as goal
+
+pub leaf_along-behind-requires-clause-leads : goal.leaf_along-behind-requires-clause-leads
+leaf_along-behind-requires-clause-leads c =
+    subst (λ rs. LeadsBelow c.self.inside.store (map (λ r. r.normal) rs) c.args.path (node_ids c.self.inside.tree)) (sym c.as_slice.ensures)
+    (leads_below _ c.args.self.now c.self.view_is c.self.invariant c.args.path c.requires.behind)
 
 pub number_all-requires-clause-forms : goal.number_all-requires-clause-forms
 number_all-requires-clause-forms c =

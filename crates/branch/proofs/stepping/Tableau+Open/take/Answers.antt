@@ -2,7 +2,7 @@ use Rattle.std.proofs.Common.{◌≡◌, Some, ap, ◌∙◌, rules}
 use Rattle.branch.specs.Ids.{Node, node_ids}
 use Rattle.branch.specs.Path.{put}
 use Rattle.branch.specs.Stepping.{step_ids}
-use Rattle.branch.proofs.Applying.{noted, take_listed, take_kept, take_applied, taken_listed, taken_filled}
+use Rattle.branch.proofs.Applying.{noted, take_listed, take_kept, take_applied, taken_listed, taken_filled, unclosed_here}
 use Rattle.branch.proofs.OpenSteps.{first_has}
 use Rattle.branch.proofs.stepping.Tableau+Open.take.Goals as goal
 
@@ -31,6 +31,12 @@ leaf_below-requires-clause-has_first c =
     let l = c.listed_at-listed.result.now in
     let h = taken_listed _ c.self.invariant here (noted _ c.args.self.now c.self.view_is c.self.invariant here p c.args.pick) c.args.pick l c.listed_at-listed.ensures in
     first_has c.self.inside.store l.normal c.first_of-first.result.now h.normal c.first_of-first.ensures
+
+pub leaf_below-requires-clause-unclosed : goal.leaf_below-requires-clause-unclosed
+leaf_below-requires-clause-unclosed c =
+    let here = c.unwrap-current.result.now in
+    let p : c.self.inside.current ≡ Some here = search rules in
+    unclosed_here _ c.args.self.now c.self.view_is c.self.invariant here p c.requires.unclosed
 
 pub note-requires-clause-forms : goal.note-requires-clause-forms
 note-requires-clause-forms c =
