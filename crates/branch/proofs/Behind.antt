@@ -1,5 +1,5 @@
 -- The next child stands below a branch that isn't closed.
-use Rattle.std.proofs.Common.{◌≡◌, ◌-◌, ℕ, zero, suc, Bool, false, ◌||◌, refl, ap, take, length, List, [], ◌∷◌, ◌++◌, Option, None, Some}
+use Rattle.std.proofs.Common.{◌≡◌, ◌+◌, ◌-◌, ℕ, zero, suc, Bool, false, ◌||◌, refl, ap, take, length, List, [], ◌∷◌, ◌++◌, Option, None, Some, arith}
 use Rattle.zm_logic.specs.Tree.{Form}
 use Rattle.term_store.specs.Trees.{Tables}
 use Rattle.term_store.specs.declared.ids.FormId.{FormId}
@@ -55,10 +55,17 @@ module _ (s : Tables) (setting : Setting) where
         (skip || skips setting.prunes b (forms_of s f) (tree_of s n)) l.2 e
 
 -- a path without its last place is its front
-pub above_is : (p : List ℕ) → take (length p - 1) p ≡ above p
-above_is [] = refl
-above_is (i ∷ []) = refl
-above_is (i ∷ j ∷ js) = ap (λ q. i ∷ q) (above_is (j ∷ js))
+above_take : (n : ℕ) (p : List ℕ) → n + 1 ≡ length p → take n p ≡ above p
+above_take n [] e = absurd (omega arith)
+above_take zero (i ∷ []) e = refl
+above_take (suc n) (i ∷ []) e = absurd (omega arith)
+above_take zero (i ∷ j ∷ js) e = absurd (omega arith)
+above_take (suc n) (i ∷ j ∷ js) e = ap (λ q. i ∷ q) (above_take n (j ∷ js) (omega arith))
+
+pub above_is : (p : List ℕ) (n : ℕ) → n ≡ length p - 1 → take n p ≡ above p
+above_is [] zero e = refl
+above_is [] (suc n) e = refl
+above_is (i ∷ is) n e = above_take n (i ∷ is) (omega arith)
 
 -- the formulas of a child behind those of the node above it
 pub extended_last : (s : Tables) (b : List Form) (before : List (List FormId)) (fs : List FormId)

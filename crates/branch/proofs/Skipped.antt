@@ -40,7 +40,9 @@ behind_none m (i ∷ is) = refl
 pub behind_more : (m : ℕ) (is : List ℕ) (k d : ℕ) → k < length is → behind m (take (k + 1) is) ≡ get_or is k d + 1
 behind_more m [] k d l = absurd (omega arith)
 behind_more m (i ∷ is) zero d l = refl
-behind_more m (i ∷ is) (suc k) d l = behind_more (i + 1) is k d (omega arith)
+behind_more m (i ∷ is) (suc k) d l =
+    let e : suc (k + 1) ≡ suc k + 1 = omega arith in
+    subst (λ n. behind m (take n (i ∷ is)) ≡ get_or is k d + 1) e (behind_more (i + 1) is k d (omega arith))
 
 pub record IsNext (P : ℕ → Type 0) (from to n : ℕ) : Type 0 where
   pub behind : from ≤ to

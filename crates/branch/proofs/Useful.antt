@@ -1,7 +1,8 @@
 -- Which raw offers are left: formulas stand on a branch as their ids do.
-use Rattle.std.proofs.Common.{ℕ, zero, suc, ◌≡◌, ◌+◌, ◌<◌, ◌≤◌, Bool, true, false, ◌&&◌, ◌||◌, not, cond, Option, List, [], ◌∷◌, ◌++◌, length, take, drop, get_or, map, filter, append-nil, append_assoc, refl, ap, sym, subst, ◌∙◌, arith}
+use Rattle.std.proofs.Common.{ℕ, zero, suc, ◌≡◌, ◌+◌, ◌<◌, ◌≤◌, Bool, true, false, ◌&&◌, ◌||◌, not, cond, Option, Some, List, [], ◌∷◌, ◌++◌, length, take, drop, get_or, map, filter, append-nil, append_assoc, slice_get, refl, ap, sym, subst, ◌∙◌, arith}
 use Rattle.std.proofs.lemmas.List.{take_more, drop_more, map-append}
 use Rattle.std.proofs.lemmas.List.Elements.{filter-append}
+use Rattle.std.specs.List.{remove}
 use Rattle.zm_logic.specs.Tree.{Form}
 use Rattle.zm_logic.specs.Same.{has}
 use Rattle.term_store.specs.Trees.{Tables, HasForm, form_of}
@@ -96,6 +97,11 @@ module _ (b : List Form) (k : Kind) (j : ℕ) (i : Option ℕ) where
       ap (λ xs. offers_at b k j i (map (raw_of s) xs)) (take_more raws n d l)
       ∙ ap (offers_at b k j i) (map-append (raw_of s) (take n raws) (get_or raws n d ∷ []))
       ∙ offers_both (map (raw_of s) (take n raws)) (raw_of s (get_or raws n d) ∷ [])
+
+-- the first of a list that is taken out
+pub first_is : {A : Type 0} (xs ys : List A) (x : A) → slice_get xs 0 ≡ Some x → ys ≡ remove xs 0 → xs ≡ x ∷ ys
+first_is [] ys x e h = absurd (let q = e in cc)
+first_is (y ∷ xs) ys x e h = let i : y ≡ x = cc in let j : ys ≡ xs = h in cc
 
 -- What is listed so far of all raw offers, where some are still to come.
 pub record RestListed (s : Tables) (b : List Form) (k : Kind) (j : ℕ) (i : Option ℕ) (os : List Offer) (all rest : List Raw) (new : List Listed) : Type 0 where

@@ -9,8 +9,8 @@ use Rattle.branch.proofs.Useful.{RestListed}
 use Rattle.branch.proofs.listed.put_all.Given as goal
 
 -- what is left of the raw offers that were taken out is listed
-abbrev pub invariant-loop-raws : goal.invariant-loop-raws
-invariant-loop-raws l = record {
+abbrev pub invariant-loop-alloc : goal.invariant-loop-alloc
+invariant-loop-alloc l = record {
   listed : (os : List Offer) → AreListed l.store os l.fn.listing.offers
       → RestListed l.store (forms_of l.store l.found) (kind_of l.place.kind) l.place.later l.place.earlier os (map (raw_of l.store) l.initial.raws)
       (map (raw_of l.store) l.raws) l.listing.offers;
@@ -18,5 +18,5 @@ invariant-loop-raws l = record {
   knows : KnowsSizes l.store l.listing.sizes;
 }
 
-abbrev pub decreases-loop-raws : goal.decreases-loop-raws
-decreases-loop-raws l = length l.raws
+abbrev pub decreases-loop-alloc : goal.decreases-loop-alloc
+decreases-loop-alloc l = length l.raws

@@ -31,3 +31,14 @@ returns-then-is_plain c =
     subst (λ is. ArePaired b c.args.place is n) (sym c.as_slice.ensures)
     (skips_weaker (λ i. is_denial (form_at b i) ≡ false) (λ i. opposites (form_at b i) f ≡ None) (λ k h. plain_none (form_at b k) f e h) 0
     c.args.lookup.now.denied n c.requires.lookup.denied)
+
+pub returns-then-is_denial : goal.returns-then-is_denial
+returns-then-is_denial c =
+    let s = c.args.store.now in
+    let b = forms_of s c.args.forms.now in
+    let n = length c.args.forms.now in
+    let f = form_at b c.args.place in
+    let e : is_denial f ≡ true = ap is_denial (map_at s c.args.forms.now c.args.place none c.requires.within) ∙ (sym c.is_denial.ensures ∙ c.if-is_denial.true) in
+    subst (λ is. ArePaired b c.args.place is n) (sym c.as_slice-then-is_denial.ensures)
+    (skips_weaker (λ i. is_plain (form_at b i) ≡ false) (λ i. opposites (form_at b i) f ≡ None) (λ k h. denial_none (form_at b k) f e h) 0
+    c.args.lookup.now.plain n c.requires.lookup.plain)

@@ -9,11 +9,11 @@ use Rattle.branch.proofs.Noted.{added_front, added_longer}
 use Rattle.branch.proofs.Standing.{brought_has}
 use Rattle.branch.proofs.stepping.leaf_along.Goals as goal
 
-pub extended-forms-requires-clause-has : goal.extended-forms-requires-clause-has
-extended-forms-requires-clause-has c = subst (HasForms c.args.store.now) (sym c.as_slice-3.ensures) c.in_ok-branch.ensures.has
+pub extended-requires-clause-has : goal.extended-requires-clause-has
+extended-requires-clause-has c = subst (HasForms c.args.store.now) (sym c.as_slice-3.ensures) c.in_ok-branch.ensures.has
 
-pub extended-forms-requires-clause-has_more : goal.extended-forms-requires-clause-has_more
-extended-forms-requires-clause-has_more c =
+pub extended-requires-clause-has_more : goal.extended-requires-clause-has_more
+extended-requires-clause-has_more c =
     let s = c.args.store.now in
     subst (HasForms s) (sym c.brought-new.ensures) (brought_has s c.as_slice-2.result.now (node_ids c.args.tree.now) c.requires.has_node)
 

@@ -1,4 +1,4 @@
-use Rattle.std.proofs.Common.{◌≤◌, ap, length, sym, subst, take, ◌∙◌}
+use Rattle.std.proofs.Common.{ap, ◌∙◌}
 use Rattle.param_store.specs.View.{forms_of}
 use Rattle.branch.specs.Branch.{closing}
 use Rattle.branch.proofs.Noted.{added_front, added_longer}
@@ -7,14 +7,10 @@ use Rattle.branch.proofs.stepping.leaf_below.Goals as goal
 pub leaf_of-requires-clause-within : goal.leaf_of-requires-clause-within
 leaf_of-requires-clause-within c =
     let s = c.args.store.now in
-    let all = c.in_ok-forms.forms in
-    subst (λ n. n ≤ length all) (sym c.len.ensures)
-    (added_longer s c.as_slice-branch.result.now all (forms_of s c.args.first.now) c.in_ok-forms.ensures.forms)
+    added_longer s c.as_slice-branch.result.now c.in_ok-forms.forms (forms_of s c.args.first.now) c.in_ok-forms.ensures.forms
 
 pub leaf_of-requires-clause-unclosed : goal.leaf_of-requires-clause-unclosed
 leaf_of-requires-clause-unclosed c =
     let s = c.args.store.now in
-    let all = c.in_ok-forms.forms in
-    ap (λ n. closing (forms_of s (take n all))) c.len.ensures
-    ∙ ap closing (added_front s c.as_slice-branch.result.now all (forms_of s c.args.first.now) c.in_ok-forms.ensures.forms)
+    ap closing (added_front s c.as_slice-branch.result.now c.in_ok-forms.forms (forms_of s c.args.first.now) c.in_ok-forms.ensures.forms)
     ∙ ap (λ ids. closing (forms_of s ids)) c.as_slice-branch.ensures ∙ c.requires.unclosed

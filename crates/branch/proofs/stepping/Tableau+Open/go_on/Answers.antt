@@ -9,8 +9,8 @@ use Rattle.branch.proofs.Ending.{end_closed, behind_kept, leads_below}
 use Rattle.branch.proofs.Standing.{brought_has}
 use Rattle.branch.proofs.stepping.Tableau+Open.go_on.Goals as goal
 
-pub leaf_along-behind-requires-clause-leads : goal.leaf_along-behind-requires-clause-leads
-leaf_along-behind-requires-clause-leads c =
+pub leaf_along-requires-clause-leads : goal.leaf_along-requires-clause-leads
+leaf_along-requires-clause-leads c =
     subst (λ rs. LeadsBelow c.self.inside.store (map (λ r. r.normal) rs) c.args.path (node_ids c.self.inside.tree)) (sym c.as_slice.ensures)
     (leads_below _ c.args.self.now c.self.view_is c.self.invariant c.args.path c.requires.behind)
 
