@@ -9,3 +9,13 @@ pub mod EqualityRules
 pub mod Induction
 pub mod GoalIsTyped
 pub mod Worked
+pub mod BuildingHypotheses
+pub mod BuildingArguments
+pub mod BuildingChildren
+pub mod BuildingDerivation
+pub mod BuildingRules
+pub mod BuildingTerms
+pub mod BuildingFile
+pub mod BuildingGoal
+pub mod BuildingGoalFile
+pub mod BuildingNodes

@@ -2,3 +2,11 @@ pub mod ProofOf
 pub mod Goal
 pub mod Laws
 pub mod Worked
+pub mod View
+pub mod ViewOldest
+pub mod ViewPlace
+pub mod ViewRules
+pub mod ViewArguments
+pub mod ViewNode
+pub mod ViewDerivation
+pub mod ViewGoal

@@ -1,7 +1,7 @@
 -- The proof term of a derivation.
 use Rattle.std.specs.Prelude.{ℕ, suc, ◌+◌, Bool, false, ◌||◌, cond, List, [], ◌∷◌, length, Option, Some, None}
 use Rattle.lp_terms.specs.Term.{Lp}
-use Rattle.zm_logic.specs.Tree.{Ty, Tys, Term, Terms, Form, Connective, Quantifier, Symbol, Opening}
+use Rattle.zm_logic.specs.Tree.{Ty, Tys, Term, Terms, Form, Symbol, Opening}
 use Rattle.zm_logic.specs.Same.{has}
 use Rattle.zm_logic.specs.Opening.{at_term, at_type}
 use Rattle.zm_logic.specs.Typing.{symbol_at, argument_types}
