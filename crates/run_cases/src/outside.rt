@@ -7,7 +7,7 @@ use std::alloc::Global;
 use zm_base::{MemLibrary, MemSink, MemSource};
 
 // How many bytes a sink takes, in all and at once, where the case says nothing.
-const ROOM: usize = 65536;
+const ROOM: usize = 1_048_576;
 
 // The words of a case that tell one of the sinks.
 #[derive(Clone, Copy)]

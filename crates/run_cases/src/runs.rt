@@ -6,7 +6,7 @@ use std::alloc::Global;
 use zenon_modulo::run;
 use zm_base::{MemLibrary, MemSource};
 
-const WORDS: [&str; 16] = [
+const WORDS: [&str; 18] = [
     "word",
     "no-words",
     "source-piece",
@@ -19,6 +19,8 @@ const WORDS: [&str; 16] = [
     "out-room",
     "out-piece",
     "out-fails",
+    "front",
+    "goal",
     "diag",
     "diag-room",
     "diag-piece",
@@ -44,9 +46,36 @@ fn wanted(alloc: Global, case: &Case) -> Result<Vec<u8>, CaseFault> {
     if !tells_sinks(case) {
         return Ok(status_told(alloc, status)?);
     }
-    let out = joined(alloc, case, "out")?;
+    let out = wanted_out(alloc, case, status)?;
     let diag = joined(alloc, case, "diag")?;
     Ok(all_told(alloc, status, out.as_slice(), diag.as_slice())?)
+}
+
+// What the first sink is to hold: `out`, and of a proof the front of its file and the entries of `goal`.
+fn wanted_out(alloc: Global, case: &Case, status: usize) -> Result<Vec<u8>, CaseFault> {
+    let mut out = joined(alloc, case, "out")?;
+    if status == 0 {
+        let front = case.wanted(alloc, "front")?;
+        out.extend_from_slice(front.as_slice())?;
+        let goal = joined(alloc, case, "goal")?;
+        out.extend_from_slice(goal.as_slice())?;
+    }
+    Ok(out)
+}
+
+// What is compared of what the first sink holds: all, but that a proof's file whose case gives no goal is compared up to
+// the end of its front.
+fn compared<'a>(
+    alloc: Global,
+    case: &Case,
+    status: usize,
+    held: &'a [u8],
+) -> Result<&'a [u8], CaseFault> {
+    if status != 0 || case.first("goal").is_some() {
+        return Ok(held);
+    }
+    let wanted = wanted_out(alloc, case, status)?;
+    Ok(&held[..held.len().min(wanted.len())])
 }
 
 // How the run of a case ends, with the words, the source and the library that it gives.
@@ -65,7 +94,8 @@ fn ended(
     if !tells_sinks(case) {
         return Ok(status_told(alloc, status)?);
     }
-    Ok(all_told(alloc, status, out.held(), diag.held())?)
+    let out = compared(alloc, case, status, out.held())?;
+    Ok(all_told(alloc, status, out, diag.held())?)
 }
 
 impl Table for Runs {

@@ -16,14 +16,20 @@ use Rattle.branch.specs.Causes.{cause_of}
 use Rattle.branch.specs.declared.why.Why.{Why}
 use Rattle.branch.proofs.Lawful.{closed_tableaux_prove_problems, open_tableaux_have_a_current_leaf}
 use Rattle.search.specs.Searched.{IsGrownOf, IsFound}
-use Rattle.search.specs.declared.run.Searched.TheVariants.{Closed, Open}
+use Rattle.search.specs.declared.run.Searched.TheVariants.{Open}
 use Rattle.search.proofs.Complete.{enough_steps_saturate}
 use Rattle.search.proofs.Growing.{grown_root}
 use Rattle.valuation.specs.Valuation.{valuation}
 use Rattle.valuation.proofs.Falsified.{saturated_tableaux_falsify}
 use Rattle.zenon_modulo.specs.Fragments.{is_built, is_quantifier_free}
-use Rattle.zenon_modulo.specs.Claims.{setting, root, TakesFirst, IsProof, IsCountermodel, IsUndecided}
+use Rattle.zenon_modulo.specs.Claims.{setting, root, IsProof, IsCountermodel, IsUndecided}
 use Rattle.zenon_modulo.specs.Stages.{IsStopped}
+use Rattle.dk_text.specs.Text.{file_text}
+use Rattle.dk_text.specs.Laws.{ReadingIsUnique}
+use Rattle.dk_printer.specs.Reading.{HasOneReading}
+use Rattle.zenon_modulo.specs.ProofFile.{proof_entries}
+use Rattle.zenon_modulo.specs.Laws.{ClosedTableauxMakeGoalFiles}
+use Rattle.zenon_modulo.proofs.HeadLines.{headed_reading}
 use Rattle.zenon_modulo.proofs.PlainProblems.{plain_refuted}
 
 abbrev setting_of : List Symbol → ℕ → Setting
@@ -54,17 +60,18 @@ module _ (p : Problem) (steps : ℕ) where
 
   -- a search of a typed problem that is built
   module _ (typed : IsTypedProblem p) (built : is_built p ≡ true) where
-    pub closed_proof : (t : State) → IsFound p steps 10000 (Closed t) → IsProof steps p (tree t)
-    closed_proof t f = record {
+    pub closed_proof : ReadingIsUnique → ClosedTableauxMakeGoalFiles → (t : State) → IsGrownOf p steps 10000 t → is_finished (tree t) ≡ true
+        → HasOneReading (file_text (proof_entries p (tree t))) (proof_entries p (tree t)) → IsProof steps p (tree t)
+    closed_proof unique files t g closed reading = record {
       built = built;
-      tableau = grown_tableau t f.0;
-      closed = f.1;
-      within = f.0.within;
-      derivation = closed_tableaux_prove_problems p (setting p) (root p) (tree t) typed refl refl (is_root t f.0) (grown_tableau t f.0) f.1;
+      tableau = grown_tableau t g;
+      closed = closed;
+      within = g.within;
+      derivation = closed_tableaux_prove_problems p (setting p) (root p) (tree t) typed refl refl (is_root t g) (grown_tableau t g) closed;
+      reading = headed_reading unique p (tree t) g.picked reading;
+      file = (files p (tree t) typed (grown_tableau t g) closed).0;
+      signature = (files p (tree t) typed (grown_tableau t g) closed).1;
     }
-
-    pub closed_first : (t : State) → IsFound p steps 10000 (Closed t) → TakesFirst (tree t)
-    closed_first t f = f.0.picked
 
     pub stopped_search : (t : State) (why : Why) → IsFound p steps 10000 (Open t why) → IsStopped steps p (cause_of why) t
     stopped_search t why f = record {

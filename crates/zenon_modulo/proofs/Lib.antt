@@ -6,9 +6,11 @@ mod Commands
 mod Dashes
 mod FileText
 mod Found
+mod HeadLines
 mod OneReading
 mod Picks
 mod PlainProblems
 mod Printed
+mod ProofFiles
 mod Reported
 mod SymbolNames

@@ -39,7 +39,7 @@ module _ (p : Problem) (steps : ℕ) where
   of_problem c a text k w = record { problem = p; claims = k; written = w }
 
   pub proved_given : (t : State) (o : Outcome) (text shown : Vec ℕ Global) → IsProof steps p (tree t) → TakesFirst (tree t)
-      → shown.items ≡ proved_text (tree t) → o ≡ Proved t → text ≡ shown → GivesFor p steps o text.items
+      → shown.items ≡ proved_text p (tree t) → o ≡ Proved t → text ≡ shown → GivesFor p steps o text.items
   proved_given t o text shown proof first w e same = λ c a.
       subst (λ x. Gives c x text.items) (sym e)
       (of_problem c (Answer.proved (tree t)) text.items (asks c p steps (λ n. IsProof n p (tree t)) a proof, first) (ap items same ∙ w))

@@ -9,6 +9,11 @@ use Rattle.zm_base.specs.Outside.{Rose}
 use Rattle.zm_base.specs.Library.{NamedFile}
 use Rattle.zm_base.specs.declared.traits.Source as source
 use Rattle.zm_base.specs.declared.library.Library as library
+use Rattle.rule_select.specs.Selection.{all_kept}
+use Rattle.lp_terms.specs.WellFormed.{IsWellFormed}
+use Rattle.dk_printer.specs.Reading.{HasOneReading}
+use Rattle.lp_signature.specs.Problem.{signature}
+use Rattle.lp_translation.specs.Goal.{IsGoalFile}
 use Rattle.branch.specs.Branch.{extend}
 use Rattle.branch.specs.Setting.{Setting}
 use Rattle.branch.specs.Tableau.{Node, Leaf, IsTableau, is_finished, count, picks, current_leaf}
@@ -19,6 +24,8 @@ use Rattle.zenon_modulo.specs.Words.{Operand, Command, Misuse, IsCommand, IsMisu
 use Rattle.zenon_modulo.specs.Fragments.{is_built, is_quantifier_free}
 use Rattle.zenon_modulo.specs.Input.{IsProblem, IfTold, Explains, IsTaken, IsCut}
 use Rattle.zenon_modulo.specs.Answer.{Explanation, Answer}
+use Rattle.zenon_modulo.specs.ProofFile.{proof_entries}
+use Rattle.zenon_modulo.specs.Text.{proved_text}
 
 -- the words of a call
 abbrev pub Words : Type 0
@@ -37,12 +44,17 @@ abbrev pub TakesFirst : Node → Type 0
 TakesFirst tree = All (λ k. k ≡ 0) (picks tree)
 
 -- Proved: a closed tableau of the problem within the Steps allowed. The premises with the negated conjecture have a derivation.
+-- What is written has exactly one reading, which is the problem's signature, well formed, and a goal whose type is the
+-- conjecture's translation.
 pub record IsProof (steps : ℕ) (p : Problem) (tree : Node) : Type 0 where
   pub built : is_built p ≡ true
   pub tableau : IsTableau (setting p) (root p) tree
   pub closed : is_finished tree ≡ true
   pub within : count tree ≤ steps
   pub derivation : Derives p.symbols [] (refuted p)
+  pub reading : HasOneReading (proved_text p tree) (proof_entries p tree)
+  pub file : IsGoalFile p (all_kept p) (proof_entries p tree)
+  pub signature : IsWellFormed (signature p (all_kept p))
 
 -- Falsified: the problem has no quantifier and no equality, and the valuation of the current branch, on which no Step is
 -- left, makes every premise true and the conjecture false.

@@ -1,11 +1,19 @@
 -- Statements about the definitions, for contracts to name.
-use Rattle.std.specs.Prelude.{ℕ, ◌≡◌, false, List, Option}
+use Rattle.std.specs.Prelude.{ℕ, ◌≡◌, true, false, List, Option}
 use Rattle.zm_base.specs.Library.{NamedFile}
 use Rattle.zm_logic.specs.Tree.{Problem}
+use Rattle.zm_logic.specs.Problem.{IsTypedProblem}
+use Rattle.lp_terms.specs.WellFormed.{IsWellFormed}
+use Rattle.rule_select.specs.Selection.{all_kept}
+use Rattle.branch.specs.Tableau.{Node, IsTableau, is_finished}
+use Rattle.lp_signature.specs.Problem.{signature}
+use Rattle.lp_translation.specs.Goal.{IsGoalFile}
 use Rattle.zenon_modulo.specs.Words.{Word, Operand, Command, Misuse, IsCommand, IsMisuse}
 use Rattle.zenon_modulo.specs.Fragments.{is_built}
 use Rattle.zenon_modulo.specs.Input.{Spells, Explains}
 use Rattle.zenon_modulo.specs.Answer.{Explanation}
+use Rattle.zenon_modulo.specs.ProofFile.{proof_entries}
+use Rattle.zenon_modulo.specs.Claims.{setting, root}
 
 -- the text of an operand spells at most one problem
 abbrev pub SpelledProblemsAreEqual : Type 0
@@ -33,3 +41,9 @@ MisusesAreEqual = (words : List Word) (m n : Misuse) → IsMisuse words m → Is
 -- nothing is wrong with a command
 abbrev pub CommandsAreNotMisused : Type 0
 CommandsAreNotMisused = (words : List Word) (c : Command) (m : Misuse) → IsCommand words c → IsMisuse words m → ⊥
+
+-- A closed tableau of a typed problem makes a goal file, over a well-formed signature.
+abbrev pub ClosedTableauxMakeGoalFiles : Type 0
+ClosedTableauxMakeGoalFiles =
+    (p : Problem) (tree : Node) → IsTypedProblem p → IsTableau (setting p) (root p) tree → is_finished tree ≡ true
+    → IsGoalFile p (all_kept p) (proof_entries p tree) × IsWellFormed (signature p (all_kept p))

@@ -4,9 +4,11 @@ use Rattle.zm_logic.specs.Tree.{Problem}
 use Rattle.zm_logic.specs.Truth.{Valued}
 use Rattle.branch.specs.Tableau.{Node, picks}
 use Rattle.branch.specs.Stopping.{Cause}
+use Rattle.dk_text.specs.Text.{file_text}
 use Rattle.zenon_modulo.specs.Answer.{Answer}
 use Rattle.zenon_modulo.specs.Names.{Name, atom_text}
 use Rattle.zenon_modulo.specs.Message.{refusal_text}
+use Rattle.zenon_modulo.specs.ProofFile.{proof_entries}
 
 -- a comma before each further number
 abbrev pub further_picks : List ℕ → List ℕ
@@ -37,8 +39,12 @@ cause_text Cause.branch_length = codes "branch length"
 cause_text (Cause.rewrites from) = codes "rewrites"
 cause_text (Cause.deep at) = codes "depth"
 
-abbrev pub proved_text : Node → List ℕ
-proved_text node = codes "(; proved ;)\n(; picks:" ++ picks_text (picks node) ++ codes " ;)\n"
+-- two lines, which are comments of the file that follows them
+abbrev pub proved_lines : Node → List ℕ
+proved_lines node = codes "(; proved ;)\n(; picks:" ++ picks_text (picks node) ++ codes " ;)\n"
+
+abbrev pub proved_text : Problem → Node → List ℕ
+proved_text p node = proved_lines node ++ file_text (proof_entries p node)
 
 abbrev pub falsified_text : Problem → List Valued → List ℕ
 falsified_text p v = codes "falsified\n" ++ valuation_text (symbol_names p) v
@@ -48,7 +54,7 @@ unknown_text why node = codes "unknown: " ++ cause_text why ++ codes "\npicks:" 
 
 -- what is written to the sink for results
 abbrev pub out_text : Problem → Answer → List ℕ
-out_text p (Answer.proved tree) = proved_text tree
+out_text p (Answer.proved tree) = proved_text p tree
 out_text p (Answer.falsified v tree) = falsified_text p v
 out_text p (Answer.unknown why tree) = unknown_text why tree
 out_text p (Answer.refused e) = []

@@ -76,7 +76,7 @@ fn solve(alloc: Global, problem: &TypedProblem, steps: u32) -> Result<Reply, All
         rewrites: 10_000,
     };
     let searched = search(alloc, problem, &selection, budget)?;
-    report(alloc, problem, steps, searched)
+    report(alloc, problem, &selection, steps, searched)
 }
 
 // What is answered to a problem that is built.

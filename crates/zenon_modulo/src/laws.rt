@@ -1,6 +1,10 @@
 //! What the definitions come to, beside what the calls claim of them. Each function does nothing: its clause is the law.
-ghost use Rattle.zenon_modulo.specs.Laws.{SpelledProblemsAreEqual, SpelledProblemsAreAccepted, ExplanationsAreEqual, CommandsAreEqual, MisusesAreEqual, CommandsAreNotMisused};
+ghost use Rattle.zenon_modulo.specs.Laws.{SpelledProblemsAreEqual, SpelledProblemsAreAccepted, ExplanationsAreEqual, CommandsAreEqual, MisusesAreEqual, CommandsAreNotMisused, ClosedTableauxMakeGoalFiles};
 
+use lp_signature::typed_laws::signatures_are_well_formed;
+use lp_translation::laws::goal_files_are_made;
+use pruning::laws::{closed_tableaux_are_derivations, end_sequents_are_given};
+use rule_select::laws::keeping_all_keeps_the_premises;
 use tff_typing::laws::{first_fault, one_problem};
 use tptp_include::outcomes_are_equal;
 
@@ -47,3 +51,15 @@ pub fn misuses_are_equal()
 pub fn commands_are_not_misused()
     ensures { CommandsAreNotMisused }
 {}
+
+/// A closed tableau of a typed problem makes a file whose goal has the type of the conjecture's proofs, over the problem's
+/// signature, each entry of which is well formed after those before it.
+pub fn closed_tableaux_make_goal_files()
+    ensures { ClosedTableauxMakeGoalFiles }
+{
+    keeping_all_keeps_the_premises();
+    closed_tableaux_are_derivations();
+    end_sequents_are_given();
+    signatures_are_well_formed();
+    goal_files_are_made();
+}

@@ -9,6 +9,7 @@ mod message;
 mod names;
 mod options;
 mod outcome;
+mod proof_file;
 mod report;
 mod status;
 mod text;

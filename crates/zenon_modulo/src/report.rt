@@ -1,19 +1,33 @@
-ghost use Rattle.std.specs.Prelude.{◌≡◌, ◌≢◌, true, map, IfOk};
+ghost use Rattle.std.specs.Prelude.{◌≡◌, ◌≢◌, ◌++◌, true, map, IfOk};
 ghost use Rattle.zm_logic.specs.Problem.{IsTypedProblem};
 ghost use Rattle.zm_logic.specs.View.{problem_tree};
 ghost use Rattle.branch.specs.Stopping.{Cause};
 ghost use Rattle.branch.specs.State.{tree};
 ghost use Rattle.branch.specs.Causes.{cause_of};
 ghost use Rattle.valuation.specs.View.{valued_tree};
-ghost use Rattle.search.specs.Searched.{IsFound};
+ghost use Rattle.search.specs.Searched.{IsFound, IsGrownOf};
+ghost use Rattle.branch.specs.Tableau.{is_finished};
+ghost use Rattle.rule_select.specs.Selection.{KeepsAll, all_kept};
+ghost use Rattle.rule_select.specs.View.{selection_tree};
+ghost use Rattle.lp_terms.specs.View.{entries_of};
+ghost use Rattle.dk_text.specs.Text.{file_text};
+ghost use Rattle.dk_printer.specs.Reading.{HasOneReading};
+ghost use Rattle.pruning.specs.Started.{IsStartedFrom};
+ghost use Rattle.zenon_modulo.specs.ProofFile.{proof_entries};
 ghost use Rattle.zenon_modulo.specs.Fragments.{is_built as spec_is_built, is_quantifier_free as spec_is_quantifier_free};
-ghost use Rattle.zenon_modulo.specs.Claims.{IsProof, IsCountermodel, TakesFirst};
+ghost use Rattle.zenon_modulo.specs.Claims.{IsCountermodel};
 ghost use Rattle.zenon_modulo.specs.Stages.{IsStopped, GivesFor, HasTableau};
-ghost use Rattle.zenon_modulo.specs.Text.{falsified_text as spec_falsified_text};
+ghost use Rattle.zenon_modulo.specs.Text.{proved_lines, proved_text as spec_proved_text, falsified_text as spec_falsified_text};
 
 use crate::fragments::is_quantifier_free;
+use crate::laws::closed_tableaux_make_goal_files;
 use crate::outcome::Outcome;
-use crate::text::{falsified_text, proved_text, unknown_text};
+use crate::proof_file::{proof_file, push_file};
+use crate::text::{falsified_text, proved_lines, unknown_text};
+use dk_text::reading_is_unique;
+use lp_terms::DkFile;
+use rule_select::Selection;
+use rule_select::laws::keeping_all_keeps_the_premises;
 use search::{Closed, Open, Searched, Tableau, Why};
 use std::alloc::{AllocError, Global};
 use valuation::{Valuation, valuation_of};
@@ -39,18 +53,52 @@ fn reported(alloc: Global, outcome: Outcome, text: Vec<u8>) -> Reply
     }
 }
 
+// The text of a proof with its file, which has one reading.
+fn with_file(alloc: Global, tableau: &Tableau<Closed>, file: &DkFile) -> Result<Vec<u8>, AllocError>
+    ensures text { IfOk result (λ t. t.items ≡ proved_lines (tree tableau.now) ++ file_text (entries_of file.now)) }
+    ensures reading { IfOk result (λ t. HasOneReading (file_text (entries_of file.now)) (entries_of file.now)) }
+{
+    let mut text = proved_lines(alloc, tableau)?;
+    push_file(alloc, &mut text, file)?;
+    Ok(text)
+}
+
+// The text of a closed tableau, whose file has one reading.
+fn proved_text(
+    alloc: Global,
+    problem: &TypedProblem,
+    selection: &Selection,
+    tableau: &Tableau<Closed>,
+) -> Result<Vec<u8>, AllocError>
+    requires kept { KeepsAll (problem_tree problem.now) (selection_tree selection.now) }
+    requires started { IsStartedFrom (problem_tree problem.now) (all_kept (problem_tree problem.now)) tableau.now }
+    ensures text { IfOk result (λ t. t.items ≡ spec_proved_text (problem_tree problem.now) (tree tableau.now)) }
+    ensures reading { IfOk result (λ t. HasOneReading (file_text (proof_entries (problem_tree problem.now) (tree tableau.now)))
+        (proof_entries (problem_tree problem.now) (tree tableau.now))) }
+{
+    let file = proof_file(alloc, problem, selection, tableau)?;
+    with_file(alloc, tableau, &file)
+}
+
 fn report_proved(
     alloc: Global,
     problem: &TypedProblem,
+    selection: &Selection,
     steps: u32,
     tableau: Tableau<Closed>,
 ) -> Result<Reply, AllocError>
-    requires proof { IsProof steps (problem_tree problem.now) (tree tableau) }
-    requires first { TakesFirst (tree tableau) }
+    requires typed { IsTypedProblem (problem_tree problem.now) }
+    requires built { spec_is_built (problem_tree problem.now) ≡ true }
+    requires kept { KeepsAll (problem_tree problem.now) (selection_tree selection.now) }
+    requires grown { IsGrownOf (problem_tree problem.now) steps 10000 tableau }
+    requires closed { is_finished (tree tableau) ≡ true }
     ensures answer { IfOk result (λ r. GivesFor (problem_tree problem.now) steps r.outcome r.text.items) }
     ensures searched { IfOk result (λ r. HasTableau r.outcome) }
 {
-    let text = proved_text(alloc, &tableau)?;
+    closed_tableaux_make_goal_files();
+    keeping_all_keeps_the_premises();
+    reading_is_unique();
+    let text = proved_text(alloc, problem, selection, &tableau)?;
     let outcome = Outcome::Proved { tableau };
     Ok(reported(alloc, outcome, text))
 }
@@ -158,17 +206,19 @@ fn report_open(
 pub fn report(
     alloc: Global,
     problem: &TypedProblem,
+    selection: &Selection,
     steps: u32,
     searched: Searched,
 ) -> Result<Reply, AllocError>
     requires typed { IsTypedProblem (problem_tree problem.now) }
     requires built { spec_is_built (problem_tree problem.now) ≡ true }
+    requires kept { KeepsAll (problem_tree problem.now) (selection_tree selection.now) }
     requires found { IsFound (problem_tree problem.now) steps 10000 searched }
     ensures answer { IfOk result (λ r. GivesFor (problem_tree problem.now) steps r.outcome r.text.items) }
     ensures searched { IfOk result (λ r. HasTableau r.outcome) }
 {
     match searched {
-        Searched::Closed(tableau) => report_proved(alloc, problem, steps, tableau),
+        Searched::Closed(tableau) => report_proved(alloc, problem, selection, steps, tableau),
         Searched::Open(tableau, why) => report_open(alloc, problem, steps, tableau, why),
     }
 }

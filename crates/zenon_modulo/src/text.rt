@@ -31,9 +31,9 @@ fn push_picks(text: &mut Vec<u8>, picks: &[usize]) -> Result<(), AllocError>
     Ok(())
 }
 
-/// What is written for a closed tableau.
-pub fn proved_text(alloc: Global, tableau: &Tableau<Closed>) -> Result<Vec<u8>, AllocError>
-    ensures { IfOk result (λ text. text.items ≡ spec.proved_text (tree tableau.now)) }
+/// The two lines before the file of a proof.
+pub fn proved_lines(alloc: Global, tableau: &Tableau<Closed>) -> Result<Vec<u8>, AllocError>
+    ensures { IfOk result (λ text. text.items ≡ spec.proved_lines (tree tableau.now)) }
 {
     let picks = tableau.picks(alloc)?;
     let mut text = Vec::from_slice(alloc, b"(; proved ;)\n(; picks:")?;
