@@ -1,0 +1,7 @@
+use Rattle.std.proofs.Common.{refl}
+use Rattle.proof_terms.proofs.equivalences.not_iff_term.Goals as goal
+
+pub returns : goal.returns
+returns c p h =
+    c.application.ensures p _ h
+    (c.pairing-pair.ensures c.args.d _ _ _ refl c.implications-there.ensures c.implications.ensures (c.shown_by_both-body.ensures c.args.d refl))
