@@ -15,7 +15,7 @@ ghost use Rattle.lp_translation.specs.ViewDerivation as derivation;
 
 use crate::hypotheses::{Fact, Facts, Proof, bind_formulas};
 use crate::node::{Node, node_of};
-use crate::parts::next;
+use crate::numbers::next;
 use crate::place::Place;
 use crate::rules::rule_term;
 use lp_signature::Bound;

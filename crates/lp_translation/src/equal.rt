@@ -5,19 +5,21 @@ ghost use Rattle.std.specs.Option.{option_map};
 ghost use Rattle.lp_terms.specs.View.{term_of};
 ghost use Rattle.zm_logic.specs.View.{form_tree, type_tree, term_tree};
 ghost use Rattle.lp_signature.specs.ProofTerms as by;
+ghost use Rattle.proof_terms.specs.Made.{Makes};
 ghost use Rattle.lp_translation.specs.ViewPlace.{written_term, written_type};
 ghost use Rattle.lp_translation.specs.ViewRules as shapes;
 
-use crate::equalities::{Sides, refl_term, sym_term, trans_first_term, trans_second_term};
 use crate::place::{Place, proof_at, term_at, type_at};
 use crate::shapes::negated;
 use lp_terms::Lp;
+use proof_terms::equalities::{Sides, refl_term, sym_term, trans_first_term, trans_second_term};
+use proof_terms::parts::{Made, application, both};
 use std::alloc::{AllocError, Global};
 use zm_logic::{Form, Term, Ty};
 
-// The proof of the second formula.
-fn second_proof(alloc: Global, place: &Place, second: &Option<Form>) -> Result<Lp, AllocError>
-    ensures { IfOk result (λ t. term_of t ≡ shapes.second_proved place.now (option_map form_tree second.now)) }
+/// The proof of the second formula.
+pub fn second_proof(alloc: Global, place: &Place, second: &Option<Form>) -> Made
+    ensures { Makes result (shapes.second_proved place.now (option_map form_tree second.now)) }
 {
     match second {
         Some(form) => proof_at(alloc, place, form),
@@ -26,39 +28,28 @@ fn second_proof(alloc: Global, place: &Place, second: &Option<Form>) -> Result<L
 }
 
 /// The term of axiom.
-pub fn axiom_rule(
-    alloc: Global,
-    place: &Place,
-    first: &Form,
-    second: &Option<Form>,
-) -> Result<Lp, AllocError>
-    ensures { IfOk result (λ t. term_of t ≡
-        by.axiom_term (shapes.proved place.now (form_tree first.now)) (shapes.second_proved place.now (option_map form_tree second.now))) }
+pub fn axiom_rule(alloc: Global, place: &Place, first: &Form, second: &Option<Form>) -> Made
+    ensures { Makes result
+        (by.axiom_term (shapes.proved place.now (form_tree first.now)) (shapes.second_proved place.now (option_map form_tree second.now))) }
 {
-    let h = proof_at(alloc, place, first)?;
-    let k = second_proof(alloc, place, second)?;
-    Lp::application(alloc, k, h)
+    let h = proof_at(alloc, place, first);
+    application(alloc, second_proof(alloc, place, second), h)
 }
 
 /// The term of refl.
-pub fn refl_rule(alloc: Global, place: &Place, first: &Form) -> Result<Lp, AllocError>
-    ensures { IfOk result (λ t. let a = form_tree first.now in
-        term_of t ≡ shapes.reflexive_by place.now (shapes.proved place.now a) (shapes.negated a)) }
+pub fn refl_rule(alloc: Global, place: &Place, first: &Form) -> Made
+    ensures { let a = form_tree first.now in
+        Makes result (shapes.reflexive_by place.now (shapes.proved place.now a) (shapes.negated a)) }
 {
-    let h = proof_at(alloc, place, first)?;
-    refl_of(alloc, place, h, negated(first))
+    refl_of(alloc, place, first, negated(first))
 }
 
 // The term by the equality.
-fn refl_of(alloc: Global, place: &Place, h: Lp, equality: &Form) -> Result<Lp, AllocError>
-    ensures { IfOk result (λ t. term_of t ≡ shapes.reflexive_by place.now (term_of h) (form_tree equality.now)) }
+fn refl_of(alloc: Global, place: &Place, first: &Form, equality: &Form) -> Made
+    ensures { Makes result (shapes.reflexive_by place.now (shapes.proved place.now (form_tree first.now)) (form_tree equality.now)) }
 {
     match equality {
-        Form::Equal(ty, left, _) => {
-            let a = type_at(alloc, place, ty)?;
-            let s = term_at(alloc, place, left)?;
-            refl_term(alloc, h, &a, &s)
-        }
+        Form::Equal(ty, left, _) => refl_at(alloc, place, first, ty, left),
         Form::True
         | Form::False
         | Form::Atom(_, _, _)
@@ -74,44 +65,54 @@ fn refl_of(alloc: Global, place: &Place, h: Lp, equality: &Form) -> Result<Lp, A
     }
 }
 
+// The term by the equality's type and its left side.
+fn refl_at(alloc: Global, place: &Place, first: &Form, ty: &Ty, left: &Term) -> Made
+    ensures { Makes result (by.refl_term (shapes.proved place.now (form_tree first.now))
+        (written_type place.now (type_tree ty.now)) (written_term place.now (term_tree left.now))) }
+{
+    let h = proof_at(alloc, place, first);
+    let a = type_at(alloc, place, ty);
+    refl_term(alloc, h, a, term_at(alloc, place, left))
+}
+
 /// The term of sym.
-pub fn sym_rule(
+pub fn sym_rule(alloc: Global, place: &Place, first: &Form, second: &Option<Form>) -> Made
+    ensures { let a = form_tree first.now in
+        Makes result (shapes.symmetric_by place.now (shapes.proved place.now a) (shapes.second_proved place.now (option_map form_tree second.now)) a) }
+{
+    match first {
+        Form::Equal(ty, left, _) => sym_at(alloc, place, first, second, ty, left),
+        Form::True
+        | Form::False
+        | Form::Atom(_, _, _)
+        | Form::Not(_)
+        | Form::And(_, _)
+        | Form::Or(_, _)
+        | Form::Imp(_, _)
+        | Form::Iff(_, _)
+        | Form::All(_, _)
+        | Form::Ex(_, _)
+        | Form::AllType(_)
+        | Form::ExType(_) => Ok(Lp::Sort),
+    }
+}
+
+// The term by the equality's type and its left side.
+fn sym_at(
     alloc: Global,
     place: &Place,
     first: &Form,
     second: &Option<Form>,
-) -> Result<Lp, AllocError>
-    ensures { IfOk result (λ t. let a = form_tree first.now in
-        term_of t ≡ shapes.symmetric_by place.now (shapes.proved place.now a) (shapes.second_proved place.now (option_map form_tree second.now)) a) }
+    ty: &Ty,
+    left: &Term,
+) -> Made
+    ensures { Makes result (by.sym_term (shapes.proved place.now (form_tree first.now))
+        (shapes.second_proved place.now (option_map form_tree second.now))
+        (written_type place.now (type_tree ty.now)) (written_term place.now (term_tree left.now))) }
 {
-    let h = proof_at(alloc, place, first)?;
-    let k = second_proof(alloc, place, second)?;
-    sym_of(alloc, place, h, k, first)
-}
-
-// The term by the equality.
-fn sym_of(alloc: Global, place: &Place, h: Lp, k: Lp, equality: &Form) -> Result<Lp, AllocError>
-    ensures { IfOk result (λ t. term_of t ≡ shapes.symmetric_by place.now (term_of h) (term_of k) (form_tree equality.now)) }
-{
-    match equality {
-        Form::Equal(ty, left, _) => {
-            let a = type_at(alloc, place, ty)?;
-            let s = term_at(alloc, place, left)?;
-            sym_term(alloc, h, k, &a, &s)
-        }
-        Form::True
-        | Form::False
-        | Form::Atom(_, _, _)
-        | Form::Not(_)
-        | Form::And(_, _)
-        | Form::Or(_, _)
-        | Form::Imp(_, _)
-        | Form::Iff(_, _)
-        | Form::All(_, _)
-        | Form::Ex(_, _)
-        | Form::AllType(_)
-        | Form::ExType(_) => Ok(Lp::Sort),
-    }
+    let (a, s) = both(type_at(alloc, place, ty), term_at(alloc, place, left))?;
+    let h = proof_at(alloc, place, first);
+    sym_term(alloc, h, second_proof(alloc, place, second), &a, &s)
 }
 
 // Both terms, written.
@@ -119,9 +120,8 @@ fn both_at(alloc: Global, place: &Place, left: &Term, right: &Term) -> Result<(L
     ensures left { IfOk result (λ p. term_of p.0 ≡ written_term place.now (term_tree left.now)) }
     ensures right { IfOk result (λ p. term_of p.1 ≡ written_term place.now (term_tree right.now)) }
 {
-    let left = term_at(alloc, place, left)?;
-    let right = term_at(alloc, place, right)?;
-    Ok((left, right))
+    let left = term_at(alloc, place, left);
+    both(left, term_at(alloc, place, right))
 }
 
 // The sides of an equality at the type and of another one, written.
@@ -144,21 +144,6 @@ fn sides_at(
     Ok(Sides { a, s, t, u, v })
 }
 
-/// The proofs of both formulas.
-pub fn proofs_at(
-    alloc: Global,
-    place: &Place,
-    first: &Form,
-    second: &Option<Form>,
-) -> Result<(Lp, Lp), AllocError>
-    ensures first { IfOk result (λ p. term_of p.0 ≡ shapes.proved place.now (form_tree first.now)) }
-    ensures second { IfOk result (λ p. term_of p.1 ≡ shapes.second_proved place.now (option_map form_tree second.now)) }
-{
-    let h = proof_at(alloc, place, first)?;
-    let k = second_proof(alloc, place, second)?;
-    Ok((h, k))
-}
-
 // What the second formula negates; the first one stands for a missing one.
 fn second_negated<'a>(first: &'a Form, second: &'a Option<Form>) -> &'a Form
     ensures { form_tree result.now ≡ shapes.second_negated (form_tree first.entry.now) (option_map form_tree second.entry.now) }
@@ -177,42 +162,34 @@ pub fn trans_first_rule(
     second: &Option<Form>,
     r: &Lp,
     q: &Lp,
-) -> Result<Lp, AllocError>
-    ensures { IfOk result (λ t. let a = form_tree first.now in let b = option_map form_tree second.now in
-        term_of t ≡ shapes.trans_first_by place.now (shapes.proved place.now a) (shapes.second_proved place.now b)
+) -> Made
+    ensures { let a = form_tree first.now in let b = option_map form_tree second.now in
+        Makes result (shapes.trans_first_by place.now (shapes.proved place.now a) (shapes.second_proved place.now b)
         a (shapes.second_negated a b) (term_of r.now) (term_of q.now)) }
 {
-    let (h, k) = proofs_at(alloc, place, first, second)?;
-    trans_first_of(
-        alloc,
-        place,
-        h,
-        k,
-        first,
-        second_negated(first, second),
-        r,
-        q,
-    )
+    trans_first_of(alloc, place, first, second, second_negated(first, second), r, q)
 }
 
 // The term by the equality and the one that the inequation negates.
 fn trans_first_of(
     alloc: Global,
     place: &Place,
-    h: Lp,
-    k: Lp,
-    equality: &Form,
+    first: &Form,
+    second: &Option<Form>,
     other: &Form,
     r: &Lp,
     q: &Lp,
-) -> Result<Lp, AllocError>
-    ensures { IfOk result (λ t. term_of t ≡
-        shapes.trans_first_by place.now (term_of h) (term_of k) (form_tree equality.now) (form_tree other.now) (term_of r.now) (term_of q.now)) }
+) -> Made
+    ensures { Makes result (shapes.trans_first_by place.now (shapes.proved place.now (form_tree first.now))
+        (shapes.second_proved place.now (option_map form_tree second.now)) (form_tree first.now) (form_tree other.now)
+        (term_of r.now) (term_of q.now)) }
 {
-    match equality {
+    match first {
         Form::Equal(ty, s, t) => match other {
             Form::Equal(_, u, v) => {
                 let sides = sides_at(alloc, place, ty, (s, t), (u, v))?;
+                let h = proof_at(alloc, place, first);
+                let k = second_proof(alloc, place, second);
                 trans_first_term(alloc, place.next, h, k, &sides, r, q)
             }
             Form::True
@@ -251,42 +228,34 @@ pub fn trans_second_rule(
     second: &Option<Form>,
     r: &Lp,
     q: &Lp,
-) -> Result<Lp, AllocError>
-    ensures { IfOk result (λ t. let a = form_tree first.now in let b = option_map form_tree second.now in
-        term_of t ≡ shapes.trans_second_by place.now (shapes.proved place.now a) (shapes.second_proved place.now b)
+) -> Made
+    ensures { let a = form_tree first.now in let b = option_map form_tree second.now in
+        Makes result (shapes.trans_second_by place.now (shapes.proved place.now a) (shapes.second_proved place.now b)
         a (shapes.second_negated a b) (term_of r.now) (term_of q.now)) }
 {
-    let (h, k) = proofs_at(alloc, place, first, second)?;
-    trans_second_of(
-        alloc,
-        place,
-        h,
-        k,
-        first,
-        second_negated(first, second),
-        r,
-        q,
-    )
+    trans_second_of(alloc, place, first, second, second_negated(first, second), r, q)
 }
 
 // The term by the equality and the one that the inequation negates.
 fn trans_second_of(
     alloc: Global,
     place: &Place,
-    h: Lp,
-    k: Lp,
-    equality: &Form,
+    first: &Form,
+    second: &Option<Form>,
     other: &Form,
     r: &Lp,
     q: &Lp,
-) -> Result<Lp, AllocError>
-    ensures { IfOk result (λ t. term_of t ≡
-        shapes.trans_second_by place.now (term_of h) (term_of k) (form_tree equality.now) (form_tree other.now) (term_of r.now) (term_of q.now)) }
+) -> Made
+    ensures { Makes result (shapes.trans_second_by place.now (shapes.proved place.now (form_tree first.now))
+        (shapes.second_proved place.now (option_map form_tree second.now)) (form_tree first.now) (form_tree other.now)
+        (term_of r.now) (term_of q.now)) }
 {
-    match equality {
+    match first {
         Form::Equal(ty, s, t) => match other {
             Form::Equal(_, u, v) => {
                 let sides = sides_at(alloc, place, ty, (s, t), (u, v))?;
+                let h = proof_at(alloc, place, first);
+                let k = second_proof(alloc, place, second);
                 trans_second_term(alloc, place.next, h, k, &sides, r, q)
             }
             Form::True

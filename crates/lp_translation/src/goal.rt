@@ -21,9 +21,9 @@ ghost use Rattle.lp_translation.specs.ViewGoal.{by_forms, by_sequent};
 use crate::derivation::proof_of;
 use crate::hypotheses::{Fact, Facts, Proof};
 use crate::node::node_of;
-use crate::parts::{by_contradiction, proofs};
 use lp_signature::{signature_of, translate_form};
 use lp_terms::{DkFile, Entry, Lp, NUMBER_LIMIT, Text};
+use proof_terms::parts::{both, by_contradiction, proofs};
 use rule_select::Selection;
 use sequent_proof::{DTree, Derivation};
 use std::alloc::{AllocError, Global};
@@ -88,8 +88,8 @@ fn goal_entry(alloc: Global, conjecture: &Lp, refutation: &Lp) -> Result<Entry, 
     ensures bounded { OnOk result ((binder_depth (prelude.prf (term_of conjecture.now)) < limit)
         × (binder_depth (by.nn 0 (term_of conjecture.now) (term_of refutation.now)) < limit)) }
 {
-    let ty = proofs(alloc, conjecture)?;
-    let body = by_contradiction(alloc, 0, conjecture, refutation)?;
+    let body = by_contradiction(alloc, Some(0), conjecture, refutation);
+    let (ty, body) = both(proofs(alloc, conjecture), body)?;
     if !is_shallow(&ty, 0) || !is_shallow(&body, 0) {
         return Err(AllocError);
     }

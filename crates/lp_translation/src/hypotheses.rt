@@ -7,7 +7,7 @@ ghost use Rattle.lp_translation.specs.ProofOf.{Hypotheses, earliest, bound_by};
 ghost use Rattle.lp_translation.specs.View.{proof_of, found_proof, with_fact, hypotheses_of};
 ghost use Rattle.lp_translation.specs.ViewOldest.{oldest_or, wants, forms_of};
 
-use crate::parts::next;
+use crate::numbers::next;
 use lp_signature::premise_name;
 use lp_terms::Lp;
 use std::alloc::{AllocError, Global};

@@ -2,20 +2,16 @@
 #![tactic(auto)]
 
 mod arguments;
-mod connectives;
 mod derivation;
 mod equal;
-mod equalities;
-mod equivalences;
 mod goal;
 mod hypotheses;
 mod joined;
 pub mod laws;
 mod node;
-mod parts;
+mod numbers;
 mod place;
 mod quantified;
-mod quantifiers;
 mod rules;
 mod shapes;
 

@@ -1,6 +1,5 @@
 //! The rules of the quantifiers, at a place.
 
-ghost use Rattle.std.specs.Prelude.{◌≡◌, IfOk};
 ghost use Rattle.std.specs.Option.{option_map};
 ghost use Rattle.lp_terms.specs.View.{term_of};
 ghost use Rattle.zm_logic.specs.View.{form_tree, type_tree, term_tree};
@@ -8,209 +7,178 @@ ghost use Rattle.zm_logic.specs.Opening.{at_term, at_type};
 ghost use Rattle.lp_signature.specs.Prelude as prelude;
 ghost use Rattle.lp_signature.specs.ProofTerms as by;
 ghost use Rattle.sequent_proof.specs.View.{part_of};
+ghost use Rattle.proof_terms.specs.Made.{Makes};
 ghost use Rattle.lp_translation.specs.ViewPlace.{written, written_entered, written_term, written_type};
 ghost use Rattle.lp_translation.specs.ViewRules as shapes;
 
-use crate::parts::types;
 use crate::place::{
     Place, form_at, instance_at, parameter_instance_at, proof_at, term_at, terms_at, type_at,
     type_instance_at, type_parameter_instance_at,
 };
-use crate::quantifiers::{exists_term, forall_term, not_exists_term, not_forall_term};
 use crate::shapes::negated;
 use lp_terms::Lp;
+use proof_terms::parts::{Made, types};
+use proof_terms::quantifiers::{exists_term, forall_term, not_exists_term, not_forall_term};
 use sequent_proof::With;
-use std::alloc::{AllocError, Global};
+use std::alloc::Global;
 use zm_logic::{Form, Term, Ty};
 
-// The term of exists over the terms of a type, of which `h` proves the formula.
+// The term of exists over the terms of a type.
 fn exists_terms(
     alloc: Global,
     place: &Place,
-    h: Lp,
+    first: &Form,
     ty: &Ty,
     body: &Form,
     with: &Term,
     r: &Lp,
-) -> Result<Lp, AllocError>
-    ensures { IfOk result (λ t. term_of t ≡
-        by.exists_term place.now.next (term_of h) (prelude.term (written_type place.now (type_tree ty.now)))
+) -> Made
+    ensures { Makes result (by.exists_term place.now.next (shapes.proved place.now (form_tree first.now))
+        (prelude.term (written_type place.now (type_tree ty.now)))
         (written_entered place.now (at_term (form_tree body.now) (term_tree with.now))) (term_of r.now)) }
 {
-    let domain = terms_at(alloc, place, ty)?;
-    let instance = parameter_instance_at(alloc, place, body, with)?;
-    exists_term(alloc, place.next, h, domain, &instance, r)
+    let h = proof_at(alloc, place, first);
+    let domain = terms_at(alloc, place, ty);
+    let instance = parameter_instance_at(alloc, place, body, with);
+    exists_term(alloc, place.next, h, domain, instance, r)
 }
 
 // The same over the types.
 fn exists_types(
     alloc: Global,
     place: &Place,
-    h: Lp,
+    first: &Form,
     body: &Form,
     with: &Ty,
     r: &Lp,
-) -> Result<Lp, AllocError>
-    ensures { IfOk result (λ t. term_of t ≡
-        by.exists_term place.now.next (term_of h) prelude.types
+) -> Made
+    ensures { Makes result (by.exists_term place.now.next (shapes.proved place.now (form_tree first.now)) prelude.types
         (written_entered place.now (at_type (form_tree body.now) (type_tree with.now))) (term_of r.now)) }
 {
-    let domain = types(alloc)?;
-    let instance = type_parameter_instance_at(alloc, place, body, with)?;
-    exists_term(alloc, place.next, h, domain, &instance, r)
+    let h = proof_at(alloc, place, first);
+    let domain = types(alloc);
+    let instance = type_parameter_instance_at(alloc, place, body, with);
+    exists_term(alloc, place.next, h, domain, instance, r)
 }
 
-// The term of not-forall over the terms of a type, of which `h` proves the formula.
+// The term of not-forall over the terms of a type.
 fn not_forall_terms(
     alloc: Global,
     place: &Place,
-    h: Lp,
+    first: &Form,
     ty: &Ty,
     body: &Form,
     with: &Term,
     r: &Lp,
-) -> Result<Lp, AllocError>
-    ensures { IfOk result (λ t. term_of t ≡
-        by.not_forall_term place.now.next (term_of h) (prelude.term (written_type place.now (type_tree ty.now)))
+) -> Made
+    ensures { Makes result (by.not_forall_term place.now.next (shapes.proved place.now (form_tree first.now))
+        (prelude.term (written_type place.now (type_tree ty.now)))
         (written_entered place.now (at_term (form_tree body.now) (term_tree with.now))) (term_of r.now)) }
 {
-    let domain = terms_at(alloc, place, ty)?;
-    let instance = parameter_instance_at(alloc, place, body, with)?;
-    not_forall_term(alloc, place.next, h, domain, &instance, r)
+    let h = proof_at(alloc, place, first);
+    let domain = terms_at(alloc, place, ty);
+    let instance = parameter_instance_at(alloc, place, body, with);
+    not_forall_term(alloc, place.next, h, domain, instance, r)
 }
 
 // The same over the types.
 fn not_forall_types(
     alloc: Global,
     place: &Place,
-    h: Lp,
+    first: &Form,
     body: &Form,
     with: &Ty,
     r: &Lp,
-) -> Result<Lp, AllocError>
-    ensures { IfOk result (λ t. term_of t ≡
-        by.not_forall_term place.now.next (term_of h) prelude.types
+) -> Made
+    ensures { Makes result (by.not_forall_term place.now.next (shapes.proved place.now (form_tree first.now)) prelude.types
         (written_entered place.now (at_type (form_tree body.now) (type_tree with.now))) (term_of r.now)) }
 {
-    let domain = types(alloc)?;
-    let instance = type_parameter_instance_at(alloc, place, body, with)?;
-    not_forall_term(alloc, place.next, h, domain, &instance, r)
+    let h = proof_at(alloc, place, first);
+    let domain = types(alloc);
+    let instance = type_parameter_instance_at(alloc, place, body, with);
+    not_forall_term(alloc, place.next, h, domain, instance, r)
 }
 
-// The term of forall over the terms of a type, of which `h` proves the formula.
+// The term of forall over the terms of a type.
 fn forall_terms(
     alloc: Global,
     place: &Place,
-    h: Lp,
+    first: &Form,
     body: &Form,
     with: &Term,
     r: &Lp,
-) -> Result<Lp, AllocError>
-    ensures { IfOk result (λ t. term_of t ≡
-        by.forall_term place.now.next (term_of h) (written_term place.now (term_tree with.now))
+) -> Made
+    ensures { Makes result (by.forall_term place.now.next (shapes.proved place.now (form_tree first.now))
+        (written_term place.now (term_tree with.now))
         (written place.now (at_term (form_tree body.now) (term_tree with.now))) (term_of r.now)) }
 {
-    let u = term_at(alloc, place, with)?;
-    let instance = instance_at(alloc, place, body, with)?;
-    forall_term(alloc, place.next, h, u, &instance, r)
+    let h = proof_at(alloc, place, first);
+    let u = term_at(alloc, place, with);
+    let instance = instance_at(alloc, place, body, with);
+    forall_term(alloc, place.next, h, u, instance, r)
 }
 
 // The same over the types.
 fn forall_types(
     alloc: Global,
     place: &Place,
-    h: Lp,
+    first: &Form,
     body: &Form,
     with: &Ty,
     r: &Lp,
-) -> Result<Lp, AllocError>
-    ensures { IfOk result (λ t. term_of t ≡
-        by.forall_term place.now.next (term_of h) (written_type place.now (type_tree with.now))
+) -> Made
+    ensures { Makes result (by.forall_term place.now.next (shapes.proved place.now (form_tree first.now))
+        (written_type place.now (type_tree with.now))
         (written place.now (at_type (form_tree body.now) (type_tree with.now))) (term_of r.now)) }
 {
-    let u = type_at(alloc, place, with)?;
-    let instance = type_instance_at(alloc, place, body, with)?;
-    forall_term(alloc, place.next, h, u, &instance, r)
+    let h = proof_at(alloc, place, first);
+    let u = type_at(alloc, place, with);
+    let instance = type_instance_at(alloc, place, body, with);
+    forall_term(alloc, place.next, h, u, instance, r)
 }
 
-// The quantifier's domain, its body, and what its variable becomes, all written.
-#[derive(Drop)]
-struct Written {
-    domain: Lp,
-    body: Lp,
-    with: Lp,
-}
-
-fn written_terms(
-    alloc: Global,
-    place: &Place,
-    ty: &Ty,
-    body: &Form,
-    with: &Term,
-) -> Result<Written, AllocError>
-    ensures domain { IfOk result (λ w. term_of w.domain ≡ prelude.term (written_type place.now (type_tree ty.now))) }
-    ensures body { IfOk result (λ w. term_of w.body ≡ written place.now (form_tree body.now)) }
-    ensures with { IfOk result (λ w. term_of w.with ≡ written_term place.now (term_tree with.now)) }
-{
-    let domain = terms_at(alloc, place, ty)?;
-    let body = form_at(alloc, place, body)?;
-    let with = term_at(alloc, place, with)?;
-    Ok(Written { domain, body, with })
-}
-
-fn written_types(
-    alloc: Global,
-    place: &Place,
-    body: &Form,
-    with: &Ty,
-) -> Result<Written, AllocError>
-    ensures domain { IfOk result (λ w. term_of w.domain ≡ prelude.types) }
-    ensures body { IfOk result (λ w. term_of w.body ≡ written place.now (form_tree body.now)) }
-    ensures with { IfOk result (λ w. term_of w.with ≡ written_type place.now (type_tree with.now)) }
-{
-    let domain = types(alloc)?;
-    let body = form_at(alloc, place, body)?;
-    let with = type_at(alloc, place, with)?;
-    Ok(Written { domain, body, with })
-}
-
-// The term of not-exists over the terms of a type, of which `h` proves the formula.
+// The term of not-exists over the terms of a type.
 fn not_exists_terms(
     alloc: Global,
     place: &Place,
-    h: Lp,
+    first: &Form,
     ty: &Ty,
     body: &Form,
     with: &Term,
     r: &Lp,
-) -> Result<Lp, AllocError>
-    ensures { IfOk result (λ t. term_of t ≡
-        by.not_exists_term place.now.next (term_of h) (prelude.term (written_type place.now (type_tree ty.now)))
+) -> Made
+    ensures { Makes result (by.not_exists_term place.now.next (shapes.proved place.now (form_tree first.now))
+        (prelude.term (written_type place.now (type_tree ty.now)))
         (written place.now (form_tree body.now)) (written_term place.now (term_tree with.now))
         (written place.now (at_term (form_tree body.now) (term_tree with.now))) (term_of r.now)) }
 {
     let instance = instance_at(alloc, place, body, with)?;
-    let Written { domain, body, with } = written_terms(alloc, place, ty, body, with)?;
-    not_exists_term(alloc, place.next, h, domain, body, with, &instance, r)
+    let h = proof_at(alloc, place, first);
+    let domain = terms_at(alloc, place, ty);
+    let body = form_at(alloc, place, body);
+    let u = term_at(alloc, place, with);
+    not_exists_term(alloc, place.next, h, domain, body, u, &instance, r)
 }
 
 // The same over the types.
 fn not_exists_types(
     alloc: Global,
     place: &Place,
-    h: Lp,
+    first: &Form,
     body: &Form,
     with: &Ty,
     r: &Lp,
-) -> Result<Lp, AllocError>
-    ensures { IfOk result (λ t. term_of t ≡
-        by.not_exists_term place.now.next (term_of h) prelude.types
+) -> Made
+    ensures { Makes result (by.not_exists_term place.now.next (shapes.proved place.now (form_tree first.now)) prelude.types
         (written place.now (form_tree body.now)) (written_type place.now (type_tree with.now))
         (written place.now (at_type (form_tree body.now) (type_tree with.now))) (term_of r.now)) }
 {
     let instance = type_instance_at(alloc, place, body, with)?;
-    let Written { domain, body, with } = written_types(alloc, place, body, with)?;
-    not_exists_term(alloc, place.next, h, domain, body, with, &instance, r)
+    let h = proof_at(alloc, place, first);
+    let domain = types(alloc);
+    let body = form_at(alloc, place, body);
+    let u = type_at(alloc, place, with);
+    not_exists_term(alloc, place.next, h, domain, body, u, &instance, r)
 }
 
 /// The term of exists.
@@ -220,32 +188,17 @@ pub fn exists_rule(
     first: &Form,
     with: &Option<With>,
     r: &Lp,
-) -> Result<Lp, AllocError>
-    ensures { IfOk result (λ t. let a = form_tree first.now in
-        term_of t ≡ shapes.exists_by place.now (shapes.proved place.now a) (a) (option_map part_of with.now) (term_of r.now)) }
+) -> Made
+    ensures { let a = form_tree first.now in
+        Makes result (shapes.exists_by place.now (shapes.proved place.now a) (a) (option_map part_of with.now) (term_of r.now)) }
 {
-    let h = proof_at(alloc, place, first)?;
-    exists_with(alloc, place, h, first, with, r)
-}
-
-// The term by the quantified formula.
-fn exists_with(
-    alloc: Global,
-    place: &Place,
-    h: Lp,
-    quantified: &Form,
-    with: &Option<With>,
-    r: &Lp,
-) -> Result<Lp, AllocError>
-    ensures { IfOk result (λ t. term_of t ≡ shapes.exists_by place.now (term_of h) (form_tree quantified.now) (option_map part_of with.now) (term_of r.now)) }
-{
-    match quantified {
+    match first {
         Form::All(ty, body) | Form::Ex(ty, body) => match with {
-            Some(With::OfTerm(u)) => exists_terms(alloc, place, h, ty, body.get(), u, r),
+            Some(With::OfTerm(u)) => exists_terms(alloc, place, first, ty, body.get(), u, r),
             Some(With::OfType(_)) | None => Ok(Lp::Sort),
         },
         Form::AllType(body) | Form::ExType(body) => match with {
-            Some(With::OfType(u)) => exists_types(alloc, place, h, body.get(), u, r),
+            Some(With::OfType(u)) => exists_types(alloc, place, first, body.get(), u, r),
             Some(With::OfTerm(_)) | None => Ok(Lp::Sort),
         },
         Form::True
@@ -267,32 +220,31 @@ pub fn not_forall_rule(
     first: &Form,
     with: &Option<With>,
     r: &Lp,
-) -> Result<Lp, AllocError>
-    ensures { IfOk result (λ t. let a = form_tree first.now in
-        term_of t ≡ shapes.not_forall_by place.now (shapes.proved place.now a) (shapes.negated a) (option_map part_of with.now) (term_of r.now)) }
+) -> Made
+    ensures { let a = form_tree first.now in
+        Makes result (shapes.not_forall_by place.now (shapes.proved place.now a) (shapes.negated a) (option_map part_of with.now) (term_of r.now)) }
 {
-    let h = proof_at(alloc, place, first)?;
-    not_forall_with(alloc, place, h, negated(first), with, r)
+    not_forall_with(alloc, place, first, negated(first), with, r)
 }
 
 // The term by the quantified formula.
 fn not_forall_with(
     alloc: Global,
     place: &Place,
-    h: Lp,
+    first: &Form,
     quantified: &Form,
     with: &Option<With>,
     r: &Lp,
-) -> Result<Lp, AllocError>
-    ensures { IfOk result (λ t. term_of t ≡ shapes.not_forall_by place.now (term_of h) (form_tree quantified.now) (option_map part_of with.now) (term_of r.now)) }
+) -> Made
+    ensures { Makes result (shapes.not_forall_by place.now (shapes.proved place.now (form_tree first.now)) (form_tree quantified.now) (option_map part_of with.now) (term_of r.now)) }
 {
     match quantified {
         Form::All(ty, body) | Form::Ex(ty, body) => match with {
-            Some(With::OfTerm(u)) => not_forall_terms(alloc, place, h, ty, body.get(), u, r),
+            Some(With::OfTerm(u)) => not_forall_terms(alloc, place, first, ty, body.get(), u, r),
             Some(With::OfType(_)) | None => Ok(Lp::Sort),
         },
         Form::AllType(body) | Form::ExType(body) => match with {
-            Some(With::OfType(u)) => not_forall_types(alloc, place, h, body.get(), u, r),
+            Some(With::OfType(u)) => not_forall_types(alloc, place, first, body.get(), u, r),
             Some(With::OfTerm(_)) | None => Ok(Lp::Sort),
         },
         Form::True
@@ -314,32 +266,17 @@ pub fn forall_rule(
     first: &Form,
     with: &Option<With>,
     r: &Lp,
-) -> Result<Lp, AllocError>
-    ensures { IfOk result (λ t. let a = form_tree first.now in
-        term_of t ≡ shapes.forall_by place.now (shapes.proved place.now a) (a) (option_map part_of with.now) (term_of r.now)) }
+) -> Made
+    ensures { let a = form_tree first.now in
+        Makes result (shapes.forall_by place.now (shapes.proved place.now a) (a) (option_map part_of with.now) (term_of r.now)) }
 {
-    let h = proof_at(alloc, place, first)?;
-    forall_with(alloc, place, h, first, with, r)
-}
-
-// The term by the quantified formula.
-fn forall_with(
-    alloc: Global,
-    place: &Place,
-    h: Lp,
-    quantified: &Form,
-    with: &Option<With>,
-    r: &Lp,
-) -> Result<Lp, AllocError>
-    ensures { IfOk result (λ t. term_of t ≡ shapes.forall_by place.now (term_of h) (form_tree quantified.now) (option_map part_of with.now) (term_of r.now)) }
-{
-    match quantified {
+    match first {
         Form::All(_, body) | Form::Ex(_, body) => match with {
-            Some(With::OfTerm(u)) => forall_terms(alloc, place, h, body.get(), u, r),
+            Some(With::OfTerm(u)) => forall_terms(alloc, place, first, body.get(), u, r),
             Some(With::OfType(_)) | None => Ok(Lp::Sort),
         },
         Form::AllType(body) | Form::ExType(body) => match with {
-            Some(With::OfType(u)) => forall_types(alloc, place, h, body.get(), u, r),
+            Some(With::OfType(u)) => forall_types(alloc, place, first, body.get(), u, r),
             Some(With::OfTerm(_)) | None => Ok(Lp::Sort),
         },
         Form::True
@@ -361,32 +298,31 @@ pub fn not_exists_rule(
     first: &Form,
     with: &Option<With>,
     r: &Lp,
-) -> Result<Lp, AllocError>
-    ensures { IfOk result (λ t. let a = form_tree first.now in
-        term_of t ≡ shapes.not_exists_by place.now (shapes.proved place.now a) (shapes.negated a) (option_map part_of with.now) (term_of r.now)) }
+) -> Made
+    ensures { let a = form_tree first.now in
+        Makes result (shapes.not_exists_by place.now (shapes.proved place.now a) (shapes.negated a) (option_map part_of with.now) (term_of r.now)) }
 {
-    let h = proof_at(alloc, place, first)?;
-    not_exists_with(alloc, place, h, negated(first), with, r)
+    not_exists_with(alloc, place, first, negated(first), with, r)
 }
 
 // The term by the quantified formula.
 fn not_exists_with(
     alloc: Global,
     place: &Place,
-    h: Lp,
+    first: &Form,
     quantified: &Form,
     with: &Option<With>,
     r: &Lp,
-) -> Result<Lp, AllocError>
-    ensures { IfOk result (λ t. term_of t ≡ shapes.not_exists_by place.now (term_of h) (form_tree quantified.now) (option_map part_of with.now) (term_of r.now)) }
+) -> Made
+    ensures { Makes result (shapes.not_exists_by place.now (shapes.proved place.now (form_tree first.now)) (form_tree quantified.now) (option_map part_of with.now) (term_of r.now)) }
 {
     match quantified {
         Form::All(ty, body) | Form::Ex(ty, body) => match with {
-            Some(With::OfTerm(u)) => not_exists_terms(alloc, place, h, ty, body.get(), u, r),
+            Some(With::OfTerm(u)) => not_exists_terms(alloc, place, first, ty, body.get(), u, r),
             Some(With::OfType(_)) | None => Ok(Lp::Sort),
         },
         Form::AllType(body) | Form::ExType(body) => match with {
-            Some(With::OfType(u)) => not_exists_types(alloc, place, h, body.get(), u, r),
+            Some(With::OfType(u)) => not_exists_types(alloc, place, first, body.get(), u, r),
             Some(With::OfTerm(_)) | None => Ok(Lp::Sort),
         },
         Form::True

@@ -100,14 +100,23 @@ fn not_right(alloc: Global, d: Number, h: &Lp, a: &Lp, b: &Lp) -> Made
     bind(alloc, d, proofs(alloc, b), used)
 }
 
-/// The term of not-or.
-pub fn not_or_term(alloc: Global, d: u32, h: &Lp, a: &Lp, b: &Lp, r: &Lp) -> Made
-    ensures { Makes result (by.not_or_term d (term_of h.now) (term_of a.now) (term_of b.now) (term_of r.now)) }
+// The term of not-or, from a proof that stays.
+fn not_or_of(alloc: Global, d: Number, h: &Lp, a: &Lp, b: &Lp, r: &Lp) -> Made
+    ensures { (n : ℕ) → Numbers d n
+        → Makes result (by.not_or_term n (term_of h.now) (term_of a.now) (term_of b.now) (term_of r.now)) }
 {
-    let refuted = refute_both(alloc, Some(d), a, b, r);
-    let left = not_left(alloc, Some(d), h, a, b);
-    let right = not_right(alloc, Some(d), h, a, b);
+    let refuted = refute_both(alloc, d, a, b, r);
+    let left = not_left(alloc, d, h, a, b);
+    let right = not_right(alloc, d, h, a, b);
     at_two(alloc, refuted, left, right)
+}
+
+/// The term of not-or.
+pub fn not_or_term(alloc: Global, d: u32, h: Made, a: &Lp, b: &Lp, r: &Lp) -> Made
+    ensures { (p : plain.Lp) → Makes h p → Makes result (by.not_or_term d p (term_of a.now) (term_of b.now) (term_of r.now)) }
+{
+    let h = h?;
+    not_or_of(alloc, Some(d), &h, a, b, r)
 }
 
 /// The proof of an implication by contradiction: the variable proves its premise, and the next one that its conclusion doesn't

@@ -9,31 +9,31 @@ ghost use Rattle.proof_terms.specs.Made.{Makes};
 
 use crate::parts::{
     Made, abstraction, application, at_two, by_contradiction, copied, equality, index, product,
-    proofs_of, prop, terms,
+    proofs_of, prop, terms, terms_of,
 };
 use lp_terms::Lp;
 use std::alloc::Global;
 
 // The predicates over the terms of the type.
-fn predicates(alloc: Global, a: &Lp) -> Made
-    ensures { Makes result (plain.Lp.prod (prelude.term (term_of a.now)) prelude.prop) }
+fn predicates(alloc: Global, a: Made) -> Made
+    ensures { (b : plain.Lp) → Makes a b → Makes result (plain.Lp.prod (prelude.term b) prelude.prop) }
 {
-    let domain = terms(alloc, a);
+    let domain = terms_of(alloc, a);
     product(alloc, domain, prop(alloc))
 }
 
 /// The proof that a term is equal to itself.
-pub fn reflexive(alloc: Global, a: &Lp, t: &Lp) -> Made
-    ensures { Makes result (by.reflexive (term_of a.now) (term_of t.now)) }
+pub fn reflexive(alloc: Global, a: Made, t: Made) -> Made
+    ensures { (b u : plain.Lp) → Makes a b → Makes t u → Makes result (by.reflexive b u) }
 {
-    let instance = application(alloc, index(0), copied(alloc, t));
+    let instance = application(alloc, index(0), t);
     let inner = abstraction(alloc, proofs_of(alloc, instance), index(0));
     abstraction(alloc, predicates(alloc, a), inner)
 }
 
 /// The term of refl.
-pub fn refl_term(alloc: Global, h: Made, a: &Lp, t: &Lp) -> Made
-    ensures { (p : plain.Lp) → Makes h p → Makes result (by.refl_term p (term_of a.now) (term_of t.now)) }
+pub fn refl_term(alloc: Global, h: Made, a: Made, t: Made) -> Made
+    ensures { (p b u : plain.Lp) → Makes h p → Makes a b → Makes t u → Makes result (by.refl_term p b u) }
 {
     application(alloc, h, reflexive(alloc, a, t))
 }
@@ -60,7 +60,8 @@ fn turned(alloc: Global, h: Made, a: &Lp, s: &Lp) -> Made
         (plain.Lp.app (plain.Lp.app p (by.is_equal_to (term_of a.now) (term_of s.now))) (by.reflexive (term_of a.now) (term_of s.now))) }
 {
     let predicate = is_equal_to(alloc, a, s);
-    at_two(alloc, h, predicate, reflexive(alloc, a, s))
+    let same = reflexive(alloc, copied(alloc, a), copied(alloc, s));
+    at_two(alloc, h, predicate, same)
 }
 
 /// The term of sym, the equality's left side being `s`.

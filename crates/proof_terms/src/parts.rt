@@ -48,8 +48,8 @@ pub fn copied(alloc: Global, term: &Lp) -> Made
     Ok(copy)
 }
 
-// Both terms, where memory was wanting for neither.
-fn both(first: Made, second: Made) -> Result<(Lp, Lp), AllocError>
+/// Both terms, where memory was wanting for neither.
+pub fn both(first: Made, second: Made) -> Result<(Lp, Lp), AllocError>
     ensures first { (t : plain.Lp) → Makes first t → IfOk result (λ both. term_of both.0 ≡ t) }
     ensures second { (t : plain.Lp) → Makes second t → IfOk result (λ both. term_of both.1 ≡ t) }
 {
