@@ -21,9 +21,7 @@ use crate::shapes::negated;
 use lp_signature::constant;
 use lp_terms::Lp;
 use proof_terms::equalities::{equal_by, reflexive};
-use proof_terms::parts::{
-    Made, abstraction, application, both, copied, equality, index, terms,
-};
+use proof_terms::parts::{Made, abstraction, application, both, copied, equality, index, terms};
 use sequent_proof::DTree;
 use std::alloc::{AllocError, Global};
 use zm_logic::{Form, SymId, Term, Terms, Ty, Tys};
@@ -58,14 +56,7 @@ fn spine(alloc: Global, place: &Place, function: Made, terms: &[Term]) -> Made
 }
 
 // The predicate of an argument, the others following it.
-fn predicate_at(
-    alloc: Global,
-    place: &Place,
-    wrap: &Wrap,
-    ty: &Lp,
-    f: &Lp,
-    rest: &[Term],
-) -> Made
+fn predicate_at(alloc: Global, place: &Place, wrap: &Wrap, ty: &Lp, f: &Lp, rest: &[Term]) -> Made
     ensures { Makes result
         (plain.Lp.abs (prelude.term (term_of ty.now))
         (wrap_of wrap.now (shapes.spine place.now (plain.Lp.app (term_of f.now) (plain.Lp.index 0)) (terms_tree rest.now)))) }
@@ -92,14 +83,7 @@ fn linking(f: Made, h: Made) -> Result<Link, AllocError>
 }
 
 // The proof by contradiction of an equality that is written.
-fn equal_written(
-    alloc: Global,
-    place: &Place,
-    ty: &Lp,
-    left: &Term,
-    right: &Term,
-    r: &Lp,
-) -> Made
+fn equal_written(alloc: Global, place: &Place, ty: &Lp, left: &Term, right: &Term, r: &Lp) -> Made
     ensures { Makes result
         (by.nn place.now.next (prelude.eq_of (term_of ty.now) (written_term place.now (term_tree left.now)) (written_term place.now (term_tree right.now))) (term_of r.now)) }
 {
@@ -280,6 +264,27 @@ fn chained(
     chain(alloc, place, wrap, link, trees, head.2.as_slice(), rs)
 }
 
+// The term by the predicate, its types and its terms.
+fn equal_arguments_at(
+    alloc: Global,
+    place: &Place,
+    first: &Form,
+    second: &Option<Form>,
+    head: (SymId, &Tys, &Terms),
+    trees: &[DTree],
+    rs: &[Lp],
+) -> Made
+    requires children { length rs.now ≡ length trees.now }
+    requires arguments { term_count (terms_tree head.2.now) ≡ length trees.now }
+    ensures { Makes result (plain.Lp.app (shapes.second_proved place.now (option_map form_tree second.now))
+        (shapes.chain_by place.now (λ f. f) (shapes.head place.now head.entry.0.0 (types_tree head.entry.1.now))
+        (shapes.proved place.now (form_tree first.now)) (equalities_in (trees_of trees.now)) (terms_tree head.entry.2.now) (terms_of rs.now))) }
+{
+    let h = proof_at(alloc, place, first);
+    let shown = chained(alloc, place, &Wrap::Atom, head, h, trees, rs);
+    application(alloc, second_proof(alloc, place, second), shown)
+}
+
 /// The term of eq-pred.
 pub fn eq_pred_rule(
     alloc: Global,
@@ -297,10 +302,15 @@ pub fn eq_pred_rule(
 {
     match first {
         Form::Atom(symbol, types, terms) => {
-            let h = proof_at(alloc, place, first);
-            let head = (*symbol, types, terms);
-            let shown = chained(alloc, place, &Wrap::Atom, head, h, trees, rs);
-            application(alloc, second_proof(alloc, place, second), shown)
+            equal_arguments_at(
+                alloc,
+                place,
+                first,
+                second,
+                (*symbol, types, terms),
+                trees,
+                rs,
+            )
         }
         Form::True
         | Form::False
@@ -359,13 +369,42 @@ fn equal_values(
 }
 
 // The equality with its left side, and the proof that this side is equal to itself.
-fn reflexive_at(alloc: Global, place: &Place, ty: &Ty, left: &Term) -> Result<(Wrap, Lp), AllocError>
+fn reflexive_at(
+    alloc: Global,
+    place: &Place,
+    ty: &Ty,
+    left: &Term,
+) -> Result<(Wrap, Lp), AllocError>
     ensures wrap { IfOk result (λ p. wrap_of p.0 ≡ prelude.eq_of (written_type place.now (type_tree ty.now)) (written_term place.now (term_tree left.now))) }
     ensures proof { IfOk result (λ p. term_of p.1 ≡ by.reflexive (written_type place.now (type_tree ty.now)) (written_term place.now (term_tree left.now))) }
 {
     let (ty, left) = both(type_at(alloc, place, ty), term_at(alloc, place, left))?;
     let same = reflexive(alloc, copied(alloc, &ty), copied(alloc, &left))?;
     Ok((Wrap::Equality { ty, left }, same))
+}
+
+// The term by the type, the left side, and the side's symbol, its types and its terms.
+fn equal_values_at(
+    alloc: Global,
+    place: &Place,
+    first: &Form,
+    left: (&Ty, &Term),
+    head: (SymId, &Tys, &Terms),
+    trees: &[DTree],
+    rs: &[Lp],
+) -> Made
+    requires children { length rs.now ≡ length trees.now }
+    requires arguments { term_count (terms_tree head.2.now) ≡ length trees.now }
+    ensures { Makes result (plain.Lp.app (shapes.proved place.now (form_tree first.now))
+        (shapes.chain_by place.now (prelude.eq_of (written_type place.now (type_tree left.entry.0.now)) (written_term place.now (term_tree left.entry.1.now)))
+        (shapes.head place.now head.entry.0.0 (types_tree head.entry.1.now))
+        (by.reflexive (written_type place.now (type_tree left.entry.0.now)) (written_term place.now (term_tree left.entry.1.now)))
+        (equalities_in (trees_of trees.now)) (terms_tree head.entry.2.now) (terms_of rs.now))) }
+{
+    let (wrap, same) = reflexive_at(alloc, place, left.0, left.1)?;
+    let shown = chained(alloc, place, &wrap, head, Ok(same), trees, rs);
+    drop(wrap);
+    application(alloc, proof_at(alloc, place, first), shown)
 }
 
 // The term by the type and the left side.
@@ -385,10 +424,15 @@ fn equal_values_of(
 {
     match left {
         Term::App(symbol, types, terms) => {
-            let (wrap, same) = reflexive_at(alloc, place, ty, left)?;
-            let head = (*symbol, types, terms);
-            let shown = chained(alloc, place, &wrap, head, Ok(same), trees, rs);
-            application(alloc, proof_at(alloc, place, first), shown)
+            equal_values_at(
+                alloc,
+                place,
+                first,
+                (ty, left),
+                (*symbol, types, terms),
+                trees,
+                rs,
+            )
         }
         Term::Bound(_) | Term::Eps(_, _) | Term::Meta(_, _) => Ok(Lp::Sort),
     }

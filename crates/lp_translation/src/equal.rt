@@ -167,7 +167,37 @@ pub fn trans_first_rule(
         Makes result (shapes.trans_first_by place.now (shapes.proved place.now a) (shapes.second_proved place.now b)
         a (shapes.second_negated a b) (term_of r.now) (term_of q.now)) }
 {
-    trans_first_of(alloc, place, first, second, second_negated(first, second), r, q)
+    trans_first_of(
+        alloc,
+        place,
+        first,
+        second,
+        second_negated(first, second),
+        r,
+        q,
+    )
+}
+
+// The term by the type and the sides of both.
+fn trans_first_at(
+    alloc: Global,
+    place: &Place,
+    first: &Form,
+    second: &Option<Form>,
+    sides: (&Ty, (&Term, &Term), (&Term, &Term)),
+    r: &Lp,
+    q: &Lp,
+) -> Made
+    ensures { Makes result (by.trans_first_term place.now.next (shapes.proved place.now (form_tree first.now))
+        (shapes.second_proved place.now (option_map form_tree second.now)) (written_type place.now (type_tree sides.entry.0.now))
+        (written_term place.now (term_tree sides.entry.1.0.now)) (written_term place.now (term_tree sides.entry.1.1.now))
+        (written_term place.now (term_tree sides.entry.2.0.now)) (written_term place.now (term_tree sides.entry.2.1.now))
+        (term_of r.now) (term_of q.now)) }
+{
+    let sides = sides_at(alloc, place, sides.0, sides.1, sides.2)?;
+    let h = proof_at(alloc, place, first);
+    let k = second_proof(alloc, place, second);
+    trans_first_term(alloc, place.next, h, k, &sides, r, q)
 }
 
 // The term by the equality and the one that the inequation negates.
@@ -187,10 +217,7 @@ fn trans_first_of(
     match first {
         Form::Equal(ty, s, t) => match other {
             Form::Equal(_, u, v) => {
-                let sides = sides_at(alloc, place, ty, (s, t), (u, v))?;
-                let h = proof_at(alloc, place, first);
-                let k = second_proof(alloc, place, second);
-                trans_first_term(alloc, place.next, h, k, &sides, r, q)
+                trans_first_at(alloc, place, first, second, (ty, (s, t), (u, v)), r, q)
             }
             Form::True
             | Form::False
@@ -233,7 +260,37 @@ pub fn trans_second_rule(
         Makes result (shapes.trans_second_by place.now (shapes.proved place.now a) (shapes.second_proved place.now b)
         a (shapes.second_negated a b) (term_of r.now) (term_of q.now)) }
 {
-    trans_second_of(alloc, place, first, second, second_negated(first, second), r, q)
+    trans_second_of(
+        alloc,
+        place,
+        first,
+        second,
+        second_negated(first, second),
+        r,
+        q,
+    )
+}
+
+// The term by the type and the sides of both.
+fn trans_second_at(
+    alloc: Global,
+    place: &Place,
+    first: &Form,
+    second: &Option<Form>,
+    sides: (&Ty, (&Term, &Term), (&Term, &Term)),
+    r: &Lp,
+    q: &Lp,
+) -> Made
+    ensures { Makes result (by.trans_second_term place.now.next (shapes.proved place.now (form_tree first.now))
+        (shapes.second_proved place.now (option_map form_tree second.now)) (written_type place.now (type_tree sides.entry.0.now))
+        (written_term place.now (term_tree sides.entry.1.0.now)) (written_term place.now (term_tree sides.entry.1.1.now))
+        (written_term place.now (term_tree sides.entry.2.0.now)) (written_term place.now (term_tree sides.entry.2.1.now))
+        (term_of r.now) (term_of q.now)) }
+{
+    let sides = sides_at(alloc, place, sides.0, sides.1, sides.2)?;
+    let h = proof_at(alloc, place, first);
+    let k = second_proof(alloc, place, second);
+    trans_second_term(alloc, place.next, h, k, &sides, r, q)
 }
 
 // The term by the equality and the one that the inequation negates.
@@ -253,10 +310,7 @@ fn trans_second_of(
     match first {
         Form::Equal(ty, s, t) => match other {
             Form::Equal(_, u, v) => {
-                let sides = sides_at(alloc, place, ty, (s, t), (u, v))?;
-                let h = proof_at(alloc, place, first);
-                let k = second_proof(alloc, place, second);
-                trans_second_term(alloc, place.next, h, k, &sides, r, q)
+                trans_second_at(alloc, place, first, second, (ty, (s, t), (u, v)), r, q)
             }
             Form::True
             | Form::False

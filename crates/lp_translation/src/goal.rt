@@ -81,6 +81,15 @@ fn is_shallow(term: &Lp, binders: u32) -> bool
     }
 }
 
+// The goal's type, and its proof from the refutation.
+fn goal_terms(alloc: Global, conjecture: &Lp, refutation: &Lp) -> Result<(Lp, Lp), AllocError>
+    ensures ty { IfOk result (λ p. term_of p.0 ≡ prelude.prf (term_of conjecture.now)) }
+    ensures body { IfOk result (λ p. term_of p.1 ≡ by.nn 0 (term_of conjecture.now) (term_of refutation.now)) }
+{
+    let body = by_contradiction(alloc, Some(0), conjecture, refutation);
+    both(proofs(alloc, conjecture), body)
+}
+
 // The goal, with its proof from the refutation.
 fn goal_entry(alloc: Global, conjecture: &Lp, refutation: &Lp) -> Result<Entry, AllocError>
     ensures value { IfOk result (λ e. entry_of e ≡
@@ -88,8 +97,7 @@ fn goal_entry(alloc: Global, conjecture: &Lp, refutation: &Lp) -> Result<Entry, 
     ensures bounded { OnOk result ((binder_depth (prelude.prf (term_of conjecture.now)) < limit)
         × (binder_depth (by.nn 0 (term_of conjecture.now) (term_of refutation.now)) < limit)) }
 {
-    let body = by_contradiction(alloc, Some(0), conjecture, refutation);
-    let (ty, body) = both(proofs(alloc, conjecture), body)?;
+    let (ty, body) = goal_terms(alloc, conjecture, refutation)?;
     if !is_shallow(&ty, 0) || !is_shallow(&body, 0) {
         return Err(AllocError);
     }

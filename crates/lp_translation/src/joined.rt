@@ -88,13 +88,7 @@ pub fn or_rule(alloc: Global, place: &Place, first: &Form, r: &Lp, s: &Lp) -> Ma
 }
 
 /// The term of not-and.
-pub fn not_and_rule(
-    alloc: Global,
-    place: &Place,
-    first: &Form,
-    r: &Lp,
-    s: &Lp,
-) -> Made
+pub fn not_and_rule(alloc: Global, place: &Place, first: &Form, r: &Lp, s: &Lp) -> Made
     ensures { let a = form_tree first.now in let f = shapes.negated a in
         Makes result (by.not_and_term place.now.next (shapes.proved place.now a)
         (written place.now (shapes.left_of f)) (written place.now (shapes.right_of f)) (term_of r.now) (term_of s.now)) }
@@ -105,13 +99,7 @@ pub fn not_and_rule(
 }
 
 /// The term of implies.
-pub fn imp_rule(
-    alloc: Global,
-    place: &Place,
-    first: &Form,
-    r: &Lp,
-    s: &Lp,
-) -> Made
+pub fn imp_rule(alloc: Global, place: &Place, first: &Form, r: &Lp, s: &Lp) -> Made
     ensures { let a = form_tree first.now in
         Makes result (by.imp_term place.now.next (shapes.proved place.now a)
         (written place.now (shapes.left_of a)) (written place.now (shapes.right_of a)) (term_of r.now) (term_of s.now)) }
@@ -122,13 +110,7 @@ pub fn imp_rule(
 }
 
 /// The term of iff.
-pub fn iff_rule(
-    alloc: Global,
-    place: &Place,
-    first: &Form,
-    r: &Lp,
-    s: &Lp,
-) -> Made
+pub fn iff_rule(alloc: Global, place: &Place, first: &Form, r: &Lp, s: &Lp) -> Made
     ensures { let a = form_tree first.now in
         Makes result (by.iff_term place.now.next (shapes.proved place.now a)
         (written place.now (shapes.left_of a)) (written place.now (shapes.right_of a)) (term_of r.now) (term_of s.now)) }
@@ -139,13 +121,7 @@ pub fn iff_rule(
 }
 
 /// The term of not-iff.
-pub fn not_iff_rule(
-    alloc: Global,
-    place: &Place,
-    first: &Form,
-    r: &Lp,
-    s: &Lp,
-) -> Made
+pub fn not_iff_rule(alloc: Global, place: &Place, first: &Form, r: &Lp, s: &Lp) -> Made
     ensures { let a = form_tree first.now in let f = shapes.negated a in
         Makes result (by.not_iff_term place.now.next (shapes.proved place.now a)
         (written place.now (shapes.left_of f)) (written place.now (shapes.right_of f)) (term_of r.now) (term_of s.now)) }

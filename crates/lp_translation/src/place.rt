@@ -73,7 +73,9 @@ fn formula_in(alloc: Global, place: &Place, scope: &[Bound], form: Result<Form, 
         → Makes result (translation.form_of (symbols_at place.now) (scope_tree scope.now) f) }
 {
     let form = form?;
-    translate_form(alloc, place.symbols, scope, &form)
+    let written = translate_form(alloc, place.symbols, scope, &form);
+    drop(form);
+    written
 }
 
 /// The body at the term, written.

@@ -44,14 +44,7 @@ fn exists_terms(
 }
 
 // The same over the types.
-fn exists_types(
-    alloc: Global,
-    place: &Place,
-    first: &Form,
-    body: &Form,
-    with: &Ty,
-    r: &Lp,
-) -> Made
+fn exists_types(alloc: Global, place: &Place, first: &Form, body: &Form, with: &Ty, r: &Lp) -> Made
     ensures { Makes result (by.exists_term place.now.next (shapes.proved place.now (form_tree first.now)) prelude.types
         (written_entered place.now (at_type (form_tree body.now) (type_tree with.now))) (term_of r.now)) }
 {
@@ -119,14 +112,7 @@ fn forall_terms(
 }
 
 // The same over the types.
-fn forall_types(
-    alloc: Global,
-    place: &Place,
-    first: &Form,
-    body: &Form,
-    with: &Ty,
-    r: &Lp,
-) -> Made
+fn forall_types(alloc: Global, place: &Place, first: &Form, body: &Form, with: &Ty, r: &Lp) -> Made
     ensures { Makes result (by.forall_term place.now.next (shapes.proved place.now (form_tree first.now))
         (written_type place.now (type_tree with.now))
         (written place.now (at_type (form_tree body.now) (type_tree with.now))) (term_of r.now)) }
@@ -152,12 +138,12 @@ fn not_exists_terms(
         (written place.now (form_tree body.now)) (written_term place.now (term_tree with.now))
         (written place.now (at_term (form_tree body.now) (term_tree with.now))) (term_of r.now)) }
 {
-    let instance = instance_at(alloc, place, body, with)?;
     let h = proof_at(alloc, place, first);
     let domain = terms_at(alloc, place, ty);
-    let body = form_at(alloc, place, body);
     let u = term_at(alloc, place, with);
-    not_exists_term(alloc, place.next, h, domain, body, u, &instance, r)
+    let instance = instance_at(alloc, place, body, with);
+    let body = form_at(alloc, place, body);
+    not_exists_term(alloc, place.next, h, domain, body, u, instance, r)
 }
 
 // The same over the types.
@@ -173,22 +159,16 @@ fn not_exists_types(
         (written place.now (form_tree body.now)) (written_type place.now (type_tree with.now))
         (written place.now (at_type (form_tree body.now) (type_tree with.now))) (term_of r.now)) }
 {
-    let instance = type_instance_at(alloc, place, body, with)?;
     let h = proof_at(alloc, place, first);
     let domain = types(alloc);
-    let body = form_at(alloc, place, body);
     let u = type_at(alloc, place, with);
-    not_exists_term(alloc, place.next, h, domain, body, u, &instance, r)
+    let instance = type_instance_at(alloc, place, body, with);
+    let body = form_at(alloc, place, body);
+    not_exists_term(alloc, place.next, h, domain, body, u, instance, r)
 }
 
 /// The term of exists.
-pub fn exists_rule(
-    alloc: Global,
-    place: &Place,
-    first: &Form,
-    with: &Option<With>,
-    r: &Lp,
-) -> Made
+pub fn exists_rule(alloc: Global, place: &Place, first: &Form, with: &Option<With>, r: &Lp) -> Made
     ensures { let a = form_tree first.now in
         Makes result (shapes.exists_by place.now (shapes.proved place.now a) (a) (option_map part_of with.now) (term_of r.now)) }
 {
@@ -260,13 +240,7 @@ fn not_forall_with(
 }
 
 /// The term of forall.
-pub fn forall_rule(
-    alloc: Global,
-    place: &Place,
-    first: &Form,
-    with: &Option<With>,
-    r: &Lp,
-) -> Made
+pub fn forall_rule(alloc: Global, place: &Place, first: &Form, with: &Option<With>, r: &Lp) -> Made
     ensures { let a = form_tree first.now in
         Makes result (shapes.forall_by place.now (shapes.proved place.now a) (a) (option_map part_of with.now) (term_of r.now)) }
 {

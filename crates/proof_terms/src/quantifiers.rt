@@ -78,15 +78,23 @@ fn by_instance(alloc: Global, d: Number, a: Made, body: Made, u: Made) -> Made
     abstraction(alloc, prop(alloc), inner)
 }
 
-// The whole, from the proof of the existential formula.
-fn refuted_by(alloc: Global, d: Number, h: Made, whole: Made, f: &Lp, r: &Lp) -> Made
-    ensures { (n : ℕ) (p w : plain.Lp) → Numbers d n → Makes h p → Makes whole w → Makes result
+// The whole, from the proof of falsity at the proof of the existential formula.
+fn refuted_by(alloc: Global, d: Number, used: Made, f: &Lp, r: &Lp) -> Made
+    ensures { (n : ℕ) (w : plain.Lp) → Numbers d n → Makes used w → Makes result
         (plain.Lp.app (by.bind n (prelude.prf (prelude.not_of (term_of f.now))) (term_of r.now))
-        (by.bind n (prelude.prf (term_of f.now)) (plain.Lp.app p w))) }
+        (by.bind n (prelude.prf (term_of f.now)) w)) }
 {
-    let used = application(alloc, h, whole);
     let refutation = bind(alloc, d, proofs(alloc, f), used);
     application(alloc, bind_refutation(alloc, d, f, r), refutation)
+}
+
+// The same, where memory was not wanting for the instance.
+fn refuted_by_instance(alloc: Global, d: Number, used: Made, f: Made, r: &Lp) -> Made
+    ensures { (n : ℕ) (w g : plain.Lp) → Numbers d n → Makes used w → Makes f g → Makes result
+        (plain.Lp.app (by.bind n (prelude.prf (prelude.not_of g)) (term_of r.now)) (by.bind n (prelude.prf g) w)) }
+{
+    let f = f?;
+    refuted_by(alloc, d, used, &f, r)
 }
 
 /// The term of not-exists: the body has the index 0 for the variable, which is `u`.
@@ -97,12 +105,13 @@ pub fn not_exists_term(
     a: Made,
     body: Made,
     u: Made,
-    f: &Lp,
+    f: Made,
     r: &Lp,
 ) -> Made
-    ensures { (p t v w : plain.Lp) → Makes h p → Makes a t → Makes body v → Makes u w
-        → Makes result (by.not_exists_term d p t v w (term_of f.now) (term_of r.now)) }
+    ensures { (p t v w g : plain.Lp) → Makes h p → Makes a t → Makes body v → Makes u w → Makes f g
+        → Makes result (by.not_exists_term d p t v w g (term_of r.now)) }
 {
     let whole = by_instance(alloc, Some(d), a, body, u);
-    refuted_by(alloc, Some(d), h, whole, f, r)
+    let used = application(alloc, h, whole);
+    refuted_by_instance(alloc, Some(d), used, f, r)
 }
