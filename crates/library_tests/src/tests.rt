@@ -1,11 +1,9 @@
 mod copies;
 mod lambda_pi;
 mod libraries;
-mod measures;
 mod needs;
 mod numbers;
 mod offers;
-mod openings;
 mod problems;
 mod selections;
 mod sharing;

@@ -1,4 +1,6 @@
 use lp_terms::{Lp, close, open, substitute};
+use proof_terms::equalities::{Sides, refl_term, sym_term, trans_first_term, trans_second_term};
+use proof_terms::parts::{Made, index};
 use std::alloc::{AllocError, Global};
 use std::test::Fail;
 
@@ -71,5 +73,31 @@ fn terms_change(rt: HostRuntime) -> Result<(), Fail> {
     assert!(rt; is_closed(alloc)?, "closed");
     assert!(rt; is_opened(alloc)?, "opened");
     assert!(rt; is_substituted(alloc)?, "substituted");
+    Ok(())
+}
+
+fn is_made(made: Made) -> bool {
+    made.is_ok()
+}
+
+// the sides of an equality and of an inequation, the indices 1 to 4, at a type, the index 0
+fn sides() -> Sides {
+    Sides {
+        a: Lp::Index(0),
+        s: Lp::Index(1),
+        t: Lp::Index(2),
+        u: Lp::Index(3),
+        v: Lp::Index(4),
+    }
+}
+
+// no search has a Step at equalities yet
+#[test]
+fn terms_of_equalities_are_made(rt: HostRuntime) -> Result<(), Fail> {
+    let (a, r, s) = (rt.alloc(), Lp::Index(0), sides());
+    assert!(rt; is_made(refl_term(a, index(5), index(0), index(1))));
+    assert!(rt; is_made(sym_term(a, index(5), index(6), &r, &r)));
+    assert!(rt; is_made(trans_first_term(a, 0, index(5), index(6), &s, &r, &r)));
+    assert!(rt; is_made(trans_second_term(a, 0, index(5), index(6), &s, &r, &r)));
     Ok(())
 }

@@ -4,7 +4,7 @@ use crate::tests::stored::{
     application, doubled_often, entered, entered_term, made_application, made_constant, opened,
     tower,
 };
-use crate::tests::trees::{Formula, Leaf, applied, constant, negated};
+use crate::tests::trees::{Formula, applied, constant, not_about};
 use std::alloc::{AllocError, Global};
 use std::test::Fail;
 use term_store::{MkFault, Opening, Store, TermId, TermNode};
@@ -86,8 +86,8 @@ fn doubles_open(
 // a tree of a thousand million nodes over few shared ones
 #[test]
 fn a_shared_tree_opens_at_once(rt: HostRuntime) -> Result<(), Fail> {
-    let body = negated(rt.alloc(), Leaf::Bound(0), 1);
-    let instance = negated(rt.alloc(), Leaf::Constant, 1);
+    let body = not_about(rt.alloc(), Term::Bound(0));
+    let instance = not_about(rt.alloc(), constant(rt.alloc()));
     assert!(rt; doubles_open(rt.alloc(), body, instance, 30)?);
     Ok(())
 }
