@@ -1,79 +1,77 @@
-use lp_terms::{Lp, close, open, substitute};
+use lp_terms::{Lp, open, substitute};
 use proof_terms::equalities::{Sides, refl_term, sym_term, trans_first_term, trans_second_term};
-use proof_terms::parts::{Made, index};
-use std::alloc::{AllocError, Global};
-use std::test::Fail;
+use proof_terms::parts::{Made, abstraction, application, both, closed, index, product, variable};
+use std::alloc::Global;
 
-// f a x, where a constant may stand for the free variable x
-fn applied(alloc: Global, last: Lp) -> Result<Lp, AllocError> {
-    let function = Lp::constant(alloc, "f")?;
-    let argument = Lp::constant(alloc, "a")?;
-    let inner = Lp::application(alloc, function, argument)?;
-    Lp::application(alloc, inner, last)
+// Whether both terms are made, and are the same.
+pub(crate) fn same(made: Made, wanted: Made) -> bool {
+    match both(made, wanted) {
+        Ok((made, wanted)) => made.is_same(&wanted),
+        Err(_) => false,
+    }
+}
+
+// f a v, where v is the last
+fn applied(alloc: Global, last: Made) -> Made {
+    let inner = application(alloc, Lp::constant(alloc, "f"), Lp::constant(alloc, "a"));
+    application(alloc, inner, last)
 }
 
 // x : A -> y : A => f a v, where v is the last
-fn bound(alloc: Global, last: Lp) -> Result<Lp, AllocError> {
-    let body = applied(alloc, last)?;
-    let abstraction = Lp::abstraction(alloc, Lp::constant(alloc, "A")?, body)?;
-    Lp::product(alloc, Lp::constant(alloc, "A")?, abstraction)
+fn bound(alloc: Global, last: Made) -> Made {
+    let body = applied(alloc, last);
+    let inner = abstraction(alloc, Lp::constant(alloc, "A"), body);
+    product(alloc, Lp::constant(alloc, "A"), inner)
 }
 
-// Whether the term is that with the constant c.
-fn has_constant(alloc: Global, made: &Lp) -> Result<bool, AllocError> {
-    let constant = Lp::constant(alloc, "c")?;
-    let put = bound(alloc, constant)?;
-    Ok(made.is_same(&put))
+fn copied(alloc: Global, term: Made) -> Made {
+    let term = term?;
+    term.copy(alloc)
 }
 
-// Whether the term is that with the variable of a third binder.
-fn has_index(alloc: Global, made: &Lp) -> Result<bool, AllocError> {
-    let loose = bound(alloc, Lp::Index(2))?;
-    Ok(made.is_same(&loose))
+fn opened(alloc: Global, term: Made, with: Made) -> Made {
+    let (term, with) = both(term, with)?;
+    open(alloc, &term, &with)
 }
 
-fn is_copied(alloc: Global) -> Result<bool, AllocError> {
-    let term = bound(alloc, Lp::Index(2))?;
-    let copy = term.copy(alloc)?;
-    has_index(alloc, &copy)
+fn substituted(alloc: Global, term: Made, with: Made) -> Made {
+    let (term, with) = both(term, with)?;
+    substitute(alloc, &term, 7, &with)
 }
 
-fn is_closed(alloc: Global) -> Result<bool, AllocError> {
-    let term = bound(alloc, Lp::Free(7))?;
-    let made = close(alloc, &term, 7)?;
-    has_index(alloc, &made)
+fn is_copied(alloc: Global) -> bool {
+    let copy = copied(alloc, bound(alloc, index(2)));
+    same(copy, bound(alloc, index(2)))
 }
 
-fn is_opened(alloc: Global) -> Result<bool, AllocError> {
-    let term = bound(alloc, Lp::Index(2))?;
-    let with = Lp::constant(alloc, "c")?;
-    let made = open(alloc, &term, &with)?;
-    has_constant(alloc, &made)
+fn is_another(alloc: Global) -> bool {
+    !same(bound(alloc, variable(Some(7))), bound(alloc, index(2)))
 }
 
-fn is_substituted(alloc: Global) -> Result<bool, AllocError> {
-    let term = bound(alloc, Lp::Free(7))?;
-    let with = Lp::constant(alloc, "c")?;
-    let made = substitute(alloc, &term, 7, &with)?;
-    has_constant(alloc, &made)
+fn is_closed(alloc: Global) -> bool {
+    let made = closed(alloc, Some(7), bound(alloc, variable(Some(7))));
+    same(made, bound(alloc, index(2)))
 }
 
-// Whether a term differs from another.
-fn is_another(alloc: Global) -> Result<bool, AllocError> {
-    let term = bound(alloc, Lp::Free(7))?;
-    let same = has_index(alloc, &term)?;
-    Ok(!same)
+fn is_opened(alloc: Global) -> bool {
+    let made = opened(alloc, bound(alloc, index(2)), Lp::constant(alloc, "c"));
+    same(made, bound(alloc, Lp::constant(alloc, "c")))
+}
+
+fn is_substituted(alloc: Global) -> bool {
+    let term = bound(alloc, variable(Some(7)));
+    let made = substituted(alloc, term, Lp::constant(alloc, "c"));
+    same(made, bound(alloc, Lp::constant(alloc, "c")))
 }
 
 #[test]
-fn terms_change(rt: HostRuntime) -> Result<(), Fail> {
+fn terms_change(rt: HostRuntime) {
     let alloc = rt.alloc();
-    assert!(rt; is_copied(alloc)?, "a copy");
-    assert!(rt; is_another(alloc)?, "another term");
-    assert!(rt; is_closed(alloc)?, "closed");
-    assert!(rt; is_opened(alloc)?, "opened");
-    assert!(rt; is_substituted(alloc)?, "substituted");
-    Ok(())
+    assert!(rt; is_copied(alloc), "a copy");
+    assert!(rt; is_another(alloc), "another term");
+    assert!(rt; is_closed(alloc), "closed");
+    assert!(rt; is_opened(alloc), "opened");
+    assert!(rt; is_substituted(alloc), "substituted");
 }
 
 fn is_made(made: Made) -> bool {
@@ -91,13 +89,17 @@ fn sides() -> Sides {
     }
 }
 
+// Whether the terms of the rules for equality are made.
+fn equalities(alloc: Global, r: &Lp, sides: &Sides) -> bool {
+    is_made(refl_term(alloc, index(5), index(0), index(1)))
+        && is_made(sym_term(alloc, index(5), index(6), r, r))
+        && is_made(trans_first_term(alloc, 0, index(5), index(6), sides, r, r))
+        && is_made(trans_second_term(alloc, 0, index(5), index(6), sides, r, r))
+}
+
 // no search has a Step at equalities yet
 #[test]
-fn terms_of_equalities_are_made(rt: HostRuntime) -> Result<(), Fail> {
-    let (a, r, s) = (rt.alloc(), Lp::Index(0), sides());
-    assert!(rt; is_made(refl_term(a, index(5), index(0), index(1))));
-    assert!(rt; is_made(sym_term(a, index(5), index(6), &r, &r)));
-    assert!(rt; is_made(trans_first_term(a, 0, index(5), index(6), &s, &r, &r)));
-    assert!(rt; is_made(trans_second_term(a, 0, index(5), index(6), &s, &r, &r)));
-    Ok(())
+fn terms_of_equalities_are_made(rt: HostRuntime) {
+    let made = equalities(rt.alloc(), &Lp::Index(0), &sides());
+    assert!(rt; made);
 }

@@ -34,16 +34,21 @@ fn is_failed(got: &Result<Got, LibFail>) -> bool {
     matches!(got, Err(LibFail::Failed))
 }
 
+fn gives_fronts(a: Global, library: &mut MemLibrary) -> bool {
+    is_bytes(&library.get(a, "a.ax", 4), b"hell")
+        && is_failed(&library.get(a, "a.ax", 9))
+        && is_bytes(&library.get(a, "a.ax", 9), b"hello")
+        && is_bytes(&library.get(a, "a.ax", 0), b"")
+        && is_bytes(&library.get(a, "b.ax", 9), b"")
+        && is_missing(&library.get(a, "c.ax", 9))
+}
+
 #[test]
 fn gives_fronts_of_files_round_a_failing_call(rt: HostRuntime) -> Result<(), Fail> {
-    let fails = vec![in rt.alloc(); 2u64]?;
-    let mut library = MemLibrary::new(two_files(rt.alloc())?, fails);
-    assert!(rt; is_bytes(&library.get(rt.alloc(), "a.ax", 4), b"hell"));
-    assert!(rt; is_failed(&library.get(rt.alloc(), "a.ax", 9)));
-    assert!(rt; is_bytes(&library.get(rt.alloc(), "a.ax", 9), b"hello"));
-    assert!(rt; is_bytes(&library.get(rt.alloc(), "a.ax", 0), b""));
-    assert!(rt; is_bytes(&library.get(rt.alloc(), "b.ax", 9), b""));
-    assert!(rt; is_missing(&library.get(rt.alloc(), "c.ax", 9)));
+    let files = two_files(rt.alloc())?;
+    let mut library = MemLibrary::new(files, vec![in rt.alloc(); 2u64]?);
+    let given = gives_fronts(rt.alloc(), &mut library);
+    assert!(rt; given);
     Ok(())
 }
 
