@@ -22,12 +22,19 @@ fn term_text(alloc: Global, term: &Term) -> Result<String, AllocError> {
     Ok(out)
 }
 
+// A formula as a text.
+fn written(alloc: Global, form: &Form) -> Result<String, AllocError> {
+    let mut out = String::new(alloc);
+    put_form(&mut out, form)?;
+    Ok(out)
+}
+
 // A formula that was made, as a text.
 fn form_text(alloc: Global, made: Result<Form, AllocError>) -> Result<String, AllocError> {
     let form = made?;
-    let mut out = String::new(alloc);
-    put_form(&mut out, &form)?;
-    Ok(out)
+    let text = written(alloc, &form);
+    drop(form);
+    text
 }
 
 // The one value of a word.
