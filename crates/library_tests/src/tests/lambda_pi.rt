@@ -97,9 +97,13 @@ fn equalities(alloc: Global, r: &Lp, sides: &Sides) -> bool {
         && is_made(trans_second_term(alloc, 0, index(5), index(6), sides, r, r))
 }
 
+fn equalities_of_sides(alloc: Global) -> bool {
+    let sides = sides();
+    equalities(alloc, &Lp::Index(0), &sides)
+}
+
 // no search has a Step at equalities yet
 #[test]
 fn terms_of_equalities_are_made(rt: HostRuntime) {
-    let made = equalities(rt.alloc(), &Lp::Index(0), &sides());
-    assert!(rt; made);
+    assert!(rt; equalities_of_sides(rt.alloc()));
 }
