@@ -2,10 +2,10 @@ use crate::tests::problems::typed;
 use crate::tests::trees::{iff, letter};
 use search::{need, weight};
 use sqlite_items::Items;
-use std::alloc::Global;
+use std::alloc::{AllocError, Global};
 use std::process::Abort;
 use std::test::Fail;
-use zm_logic::Problem;
+use zm_logic::{Form, Problem};
 
 // Whether the problem has this weight and this need.
 fn has(problem: &Problem, counts: (u128, u128)) -> bool {
@@ -34,18 +34,26 @@ fn weights_and_needs(rt: HostRuntime) -> Result<(), Fail> {
     expect(&rt, a, several, (7, 56))
 }
 
-#[test]
-fn needs_no_greater_than_the_greatest_number(rt: HostRuntime) -> Result<(), Fail> {
-    let alloc = rt.alloc();
+fn problem_of(alloc: Global, conjecture: Form) -> Problem {
+    Problem {
+        symbols: Items::new(alloc),
+        premises: Items::new(alloc),
+        conjecture,
+    }
+}
+
+// Whether a problem of 130 equivalences has a need as great as a number can be.
+fn needs_the_greatest(alloc: Global) -> Result<bool, AllocError> {
     let mut chain = letter(alloc, 1);
     for _ in 0..130 {
         chain = iff(alloc, chain, letter(alloc, 2));
     }
-    let problem = Problem {
-        symbols: Items::new(alloc),
-        premises: Items::new(alloc),
-        conjecture: chain?.into_inner(),
-    };
-    assert_eq!(rt; (weight(&problem), need(&problem)), (391, u128::MAX));
+    let problem = problem_of(alloc, chain?.into_inner());
+    Ok(has(&problem, (391, u128::MAX)))
+}
+
+#[test]
+fn needs_no_greater_than_the_greatest_number(rt: HostRuntime) -> Result<(), Fail> {
+    assert!(rt; needs_the_greatest(rt.alloc())?);
     Ok(())
 }

@@ -36,12 +36,16 @@ fn problem_tells_kinds(alloc: Global, problem: &TypedProblem) -> Result<bool, Al
     Ok(tells_kinds(&signature))
 }
 
+fn text_tells_kinds(alloc: Global, text: &str) -> Result<bool, Fail> {
+    let problem = typed(alloc, text)?;
+    Ok(problem_tells_kinds(alloc, &problem)?)
+}
+
 #[test]
 fn constants_tell_kinds_and_arguments(rt: HostRuntime) -> Result<(), Fail> {
     let text =
         "tff(s,type,set: $tType > $tType).tff(m,type,'a b': !>[A: $tType]: ((A * set(A)) > $o)).fof(p,axiom,q(c)).";
-    let problem = typed(rt.alloc(), text)?;
-    assert!(rt; problem_tells_kinds(rt.alloc(), &problem)?);
+    assert!(rt; text_tells_kinds(rt.alloc(), text)?);
     Ok(())
 }
 
