@@ -1,0 +1,13 @@
+pub mod Answers
+pub mod Contexts
+pub mod Inferred
+pub mod Files
+pub mod Rows
+pub mod Variables
+pub mod Told
+pub mod Named
+pub mod Bound
+pub mod Telling
+pub mod Ends
+pub mod Entries
+pub mod Unbound

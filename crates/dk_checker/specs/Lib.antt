@@ -1,0 +1,7 @@
+pub mod Found
+pub mod Asking
+pub mod Inference
+pub mod View
+pub mod Told
+pub mod Verdicts
+pub mod Laws
