@@ -1,0 +1,10 @@
+use Rattle.std.proofs.Common.{◌-◌}
+use Rattle.rule_index.specs.View.{rules_of}
+use Rattle.normaliser.proofs.Stepping.{IsLed}
+use Rattle.normaliser.proofs.normalising.normal.Given as goal
+
+abbrev pub invariant-loop : goal.invariant-loop
+invariant-loop l = IsLed (rules_of l.index) l.limit l.form l.fn.store l.store l.reached l.steps
+
+abbrev pub decreases-loop : goal.decreases-loop
+decreases-loop l = l.limit - l.steps

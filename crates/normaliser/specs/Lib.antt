@@ -1,0 +1,9 @@
+pub mod NextStep
+pub mod NormalForm
+pub mod Evaluate
+pub mod Meaning
+pub mod Parts
+pub mod View
+pub mod Answered
+pub mod Kept
+pub mod Laws
