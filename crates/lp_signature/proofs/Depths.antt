@@ -6,7 +6,7 @@ use Rattle.lp_terms.specs.Measure.{binder_depth, context_depth, entry_depth, ent
 use Rattle.zm_logic.specs.Tree.{Ty, Tys, Term, Terms, Form, Connective, Quantifier, Symbol, Sense, Binder, Side, Rule, Role}
 use Rattle.zm_logic.specs.Measure.{depth}
 use Rattle.zm_logic.specs.Typing.{how_many}
-use Rattle.rule_select.specs.Reading.{front, body, is_variable, is_definable, term_rule, form_rule, equality_read, equivalence_read, body_readings, readings}
+use Rattle.rule_select.specs.Reading.{front, body, is_variable, is_definable, term_rule, form_rule, equality_read, equivalence_read, negation_read, body_readings, readings}
 use Rattle.rule_select.specs.Lawful.{FirstLawful}
 use Rattle.lp_signature.specs.Names.{constant}
 use Rattle.lp_signature.specs.Translation.{Scope, type_of, apply_types, term_of, apply_terms, form_of, arrows, over_types, symbol_type}
@@ -125,6 +125,16 @@ module _ (symbols : List Symbol) where
       → EachOf (IsShallow n) (equivalence_read bs f g)
   equivalence_shallow n bs f g h k = if_read (IsShallow n) (is_definable f) (form_rule bs f g ∷ []) [] ((h, k), tt) tt
 
+  negation_shallow : (n : ℕ) (bs : List Binder) (f : Form) → length bs + depth f ≤ n → EachOf (IsShallow n) (negation_read bs f)
+  negation_shallow n bs (Form.atom p ts us) h = ((omega (arith, h), omega (arith, h)), tt)
+  negation_shallow n bs (Form.equal t a b) h = tt
+  negation_shallow n bs Form.truth h = tt
+  negation_shallow n bs Form.falsity h = tt
+  negation_shallow n bs (Form.negation f) h = tt
+  negation_shallow n bs (Form.binary c f g) h = tt
+  negation_shallow n bs (Form.quantified q t f) h = tt
+  negation_shallow n bs (Form.quantified_types q f) h = tt
+
   body_shallow : (n : ℕ) (bs : List Binder) (f : Form) → length bs + depth f ≤ n → EachOf (IsShallow n) (body_readings bs f)
   body_shallow n bs (Form.equal t a b) h =
       each_joined (IsShallow n) (equality_read bs a b) (equality_read bs b a)
@@ -132,6 +142,8 @@ module _ (symbols : List Symbol) where
   body_shallow n bs (Form.binary Connective.equivalence f g) h =
       each_joined (IsShallow n) (equivalence_read bs f g) (equivalence_read bs g f)
       (equivalence_shallow n bs f g (omega (arith, h)) (omega (arith, h))) (equivalence_shallow n bs g f (omega (arith, h)) (omega (arith, h)))
+  body_shallow n bs (Form.atom p ts us) h = ((omega (arith, h), omega (arith, h)), tt)
+  body_shallow n bs (Form.negation f) h = negation_shallow n bs f (omega (arith, h))
   body_shallow n bs _ h = tt
 
   lawful_shallow : (n : ℕ) {role : Role} {rs : List Rule} {r : Rule} → FirstLawful role rs r → EachOf (IsShallow n) rs → IsShallow n r

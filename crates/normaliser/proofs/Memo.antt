@@ -112,6 +112,11 @@ knows_stays s t n x h = λ i r e. still_reached (normaliser_rules n) s t i r.0 r
 pub nothing_kept : (n : Normaliser) → n.kept.entries ≡ [] → (s : Tables) → Knows s n
 nothing_kept n e s = λ i r k. (let h = ap (lookup (λ (y : FormId). nat_eq i.0 y.0)) e in absurd (cc))
 
+-- nothing more is kept
+pub none_kept : {S : Type 0} (P : FormId → FormId × ℕ → Type 0) (old new : IndexMap FormId (FormId × ℕ) S) → new.entries ≡ old.entries
+    → ((i : FormId) (j : FormId × ℕ) → get same_id old i ≡ Some j → P i j) → (i : FormId) (j : FormId × ℕ) → get same_id new i ≡ Some j → P i j
+none_kept P old new u h i j e = h i j (sym (ap (lookup (λ (y : FormId). nat_eq i.0 y.0)) u) ∙ e)
+
 -- one formula more is kept
 pub one_kept : {S : Type 0} (P : FormId → FormId × ℕ → Type 0) (old new : IndexMap FormId (FormId × ℕ) S) (k : FormId) (r : FormId × ℕ)
     → ((q : FormId) → get same_id new q ≡ cond (nat_eq k.0 q.0) (Some r) (get same_id old q))

@@ -29,7 +29,7 @@ led_start rules limit form r h l = record { kept = extends_itself r; has = h; wi
 
 module _ (rules : List tree.Rule) (limit : ℕ) (form : FormId) (r s : Tables) (reached : FormId) (steps : ℕ)
     (led : IsLed rules limit form r s reached steps) where
-  Ends : Answer tree.Form → Type 0
+  abbrev Ends : Answer tree.Form → Type 0
   Ends a = Outcome (next_step rules) depth 2000 limit (form_of r form) a
 
   pub led_on : (t : Tables) (id : FormId) (next : Form) → some_form (Some next) ≡ next_step rules (form_of s reached) → steps < limit

@@ -52,7 +52,10 @@ module _ (rules : List tree.Rule) where
   set_is : (ts : List Term) (i : ℕ) (v : Term) → i < length ts → terms_tree (slice_set ts i v) ≡ before (take i ts) (tree.Terms.more (term_tree v) (terms_tree (drop (i + 1) ts)))
   set_is [] i v l = absurd (omega arith)
   set_is (t ∷ ts) zero v l = refl
-  set_is (t ∷ ts) (suc i) v l = ap (tree.Terms.more (term_tree t)) (set_is ts i v (omega arith))
+  set_is (t ∷ ts) (suc i) v l =
+      let e : suc (i + 1) ≡ suc i + 1 = omega arith in
+      ap (tree.Terms.more (term_tree t)) (set_is ts i v (omega arith))
+      ∙ ap (λ k. tree.Terms.more (term_tree t) (before (take i ts) (tree.Terms.more (term_tree v) (terms_tree (drop k (t ∷ ts)))))) e
 
   pub next_here : (ts : List Term) (i : ℕ) (e v : Term) → i < length ts → next_term rules (term_tree (get_or ts i e)) ≡ Some (term_tree v) → GoesOn ts i
       → Some (terms_tree (slice_set ts i v)) ≡ next_terms rules (terms_tree ts)

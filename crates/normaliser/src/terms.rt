@@ -11,14 +11,23 @@ use std::alloc::{AllocError, Global};
 use zm_logic::{Side, SymId, Term, Terms, Tys};
 
 // What the first rule that fits a term makes of it.
-fn root_term(alloc: Global, index: &Index, term: Term) -> Result<Option<Term>, AllocError>
-    ensures { IfOk result (λ m. some_term m ≡ step.root_term (rules_of index.now) (term_tree term)) }
+fn root_term(alloc: Global, index: &Index, term: &Term) -> Result<Option<Term>, AllocError>
+    ensures { IfOk result (λ m. some_term m ≡ step.root_term (rules_of index.now) (term_tree term.now)) }
 {
-    match index.rewrite(alloc, &Side::OfTerm(term))? {
+    let place = Side::OfTerm(term.copy(alloc)?);
+    match index.rewrite(alloc, &place)? {
         Some(Side::OfTerm(next)) => Ok(Some(next)),
         Some(Side::OfForm(_)) => Ok(None),
         None => Ok(None),
     }
+}
+
+// A symbol at these types and terms.
+fn applied(alloc: Global, symbol: SymId, types: &Tys, terms: Terms) -> Result<Term, AllocError>
+    ensures { IfOk result (λ u. term_tree u ≡ tree.Term.app symbol.0 (types_tree types.now) (terms_tree terms)) }
+{
+    let types = copy_types(alloc, types)?;
+    Ok(Term::App(symbol, types, terms))
 }
 
 /// The leftmost innermost step of a term, or None where it has none. The one error is want of memory.
@@ -32,27 +41,10 @@ pub(crate) fn next_term(
 {
     match term {
         Term::Bound(_) | Term::Eps(_, _) | Term::Meta(_, _) => Ok(None),
-        Term::App(symbol, types, terms) => next_app(alloc, index, *symbol, types, terms),
-    }
-}
-
-#[cycle(next_term)]
-fn next_app(
-    alloc: Global,
-    index: &Index,
-    symbol: SymId,
-    types: &Tys,
-    terms: &Terms,
-) -> Result<Option<Term>, AllocError>
-    ensures { IfOk result (λ m. some_term m ≡ step.next_term (rules_of index.now) (tree.Term.app symbol.0 (types_tree types.now) (terms_tree terms.now))) }
-{
-    let types = copy_types(alloc, types)?;
-    match next_terms(alloc, index, terms)? {
-        Some(next) => Ok(Some(Term::App(symbol, types, next))),
-        None => {
-            let terms = copy_terms(alloc, terms)?;
-            root_term(alloc, index, Term::App(symbol, types, terms))
-        }
+        Term::App(symbol, types, terms) => match next_terms(alloc, index, terms)? {
+            Some(next) => Ok(Some(applied(alloc, *symbol, types, next)?)),
+            None => root_term(alloc, index, term),
+        },
     }
 }
 

@@ -2,7 +2,7 @@
 use Rattle.std.proofs.Common.{ℕ, ◌≡◌, ◌+◌, zero, suc, Bool, true, false, ◌&&◌, if◌then◌else◌, ◌⊎◌, inl, inr, refl, ap, sym, subst, arith, Option, List, [], ◌∷◌, ◌++◌, length, All}
 use Rattle.std.specs.List.{Contains}
 use Rattle.std.proofs.lemmas.List.Elements.{All-head, All-tail}
-use Rattle.zm_logic.specs.Tree.{Ty, Term, Form, Connective, Quantifier, Opening, Symbol, Rule, Binder, Role, Premise, iff, for_all, for_all_types}
+use Rattle.zm_logic.specs.Tree.{Ty, Tys, Term, Terms, Form, Connective, Quantifier, Opening, Symbol, Rule, Binder, Role, Premise, iff, for_all, for_all_types}
 use Rattle.zm_logic.specs.Opening.{open_at, at_term, at_type}
 use Rattle.zm_logic.specs.Parameter.{Parameter, IsNot, IsFresh, EachIn, EachInTerm, Never}
 use Rattle.zm_logic.specs.Index.{IsClosed}
@@ -11,7 +11,7 @@ use Rattle.zm_logic.specs.Problem.{prenex, IsTypedRule, IsProblemForm}
 use Rattle.zm_logic.specs.Rewriting.{Congruent}
 use Rattle.zm_logic.specs.Laws.{HasNoParameterIn}
 use Rattle.zm_logic.proofs.ClosedForm.{form_is_closed}
-use Rattle.rule_select.specs.Reading.{front, body, is_declared, are_different_variables, form_rule, equality_read, equivalence_read, body_readings}
+use Rattle.rule_select.specs.Reading.{front, body, is_declared, are_different_variables, form_rule, equality_read, equivalence_read, negation_read, body_readings}
 use Rattle.rule_select.specs.Lawful.{IsLawful, FirstLawful, IsRule}
 use Rattle.rule_select.specs.Selection.{Sorts}
 use Rattle.rule_select.specs.Sound.{IsClosedSide, IsPattern, IsSound}
@@ -33,34 +33,45 @@ prenex_front (Form.quantified Quantifier.existential t f) = refl
 prenex_front (Form.quantified_types Quantifier.universal f) = ap for_all_types (prenex_front f)
 prenex_front (Form.quantified_types Quantifier.existential f) = refl
 
--- the same formula, or one with its sides swapped
-pub data Swapped : Form → Form → Type 0 where
-  equality : {t : Ty} {a b : Term} → Swapped (Form.equal t a b) (Form.equal t b a)
-  equivalence : {f g : Form} → Swapped (iff f g) (iff g f)
+-- a formula, and the equality or the equivalence that it is read as
+pub data Restated : Form → Form → Type 0 where
+  equality : {t : Ty} {a b : Term} → Restated (Form.equal t a b) (Form.equal t b a)
+  equivalence : {f g : Form} → Restated (iff f g) (iff g f)
+  claim : {f : Form} → Restated f (iff f Form.truth)
+  denial : {f : Form} → Restated (Form.negation f) (iff f Form.falsity)
 
-swapped_opened : (k : ℕ) (o : Opening) {f g : Form} → Swapped f g → Swapped (open_at k o f) (open_at k o g)
-swapped_opened k o Swapped.equality = Swapped.equality
-swapped_opened k o Swapped.equivalence = Swapped.equivalence
+restated_opened : (k : ℕ) (o : Opening) {f g : Form} → Restated f g → Restated (open_at k o f) (open_at k o g)
+restated_opened k o Restated.equality = Restated.equality
+restated_opened k o Restated.equivalence = Restated.equivalence
+restated_opened k o Restated.claim = Restated.claim
+restated_opened k o Restated.denial = Restated.denial
 
-swapped_each : (P : Parameter → Type 0) {f g : Form} → Swapped f g → EachIn P f → EachIn P g
-swapped_each P Swapped.equality e = (e.0, e.2, e.1)
-swapped_each P Swapped.equivalence e = (e.1, e.0)
+restated_each : (P : Parameter → Type 0) {f g : Form} → Restated f g → EachIn P f → EachIn P g
+restated_each P Restated.equality e = (e.0, e.2, e.1)
+restated_each P Restated.equivalence e = (e.1, e.0)
+restated_each P Restated.claim e = (e, tt)
+restated_each P Restated.denial e = (e, tt)
 
-swapped_each_prenex : (P : Parameter → Type 0) (bs : List Binder) {f g : Form} → Swapped f g → EachIn P (prenex bs f) → EachIn P (prenex bs g)
-swapped_each_prenex P [] s e = swapped_each P s e
-swapped_each_prenex P (Binder.of_type ∷ bs) s e = swapped_each_prenex P bs s e
-swapped_each_prenex P (Binder.of_term t ∷ bs) s e = (e.0, swapped_each_prenex P bs s e.1)
+restated_each_prenex : (P : Parameter → Type 0) (bs : List Binder) {f g : Form} → Restated f g → EachIn P (prenex bs f) → EachIn P (prenex bs g)
+restated_each_prenex P [] s e = restated_each P s e
+restated_each_prenex P (Binder.of_type ∷ bs) s e = restated_each_prenex P bs s e
+restated_each_prenex P (Binder.of_term t ∷ bs) s e = (e.0, restated_each_prenex P bs s e.1)
 
 module _ (symbols : List Symbol) where
-  swapped_typed : {f g : Form} → Swapped f g → WellTyped symbols f → WellTyped symbols g
-  swapped_typed Swapped.equality w = equality_swapped w
+  restated_typed : {f g : Form} → Restated f g → WellTyped symbols f → WellTyped symbols g
+  restated_typed Restated.equality w = equality_swapped w
     where
       equality_swapped : {t : Ty} {a b : Term} → WellTyped symbols (Form.equal t a b) → WellTyped symbols (Form.equal t b a)
       equality_swapped (WellTyped.equal it h g) = WellTyped.equal it g h
-  swapped_typed Swapped.equivalence w = equivalence_swapped w
+  restated_typed Restated.equivalence w = equivalence_swapped w
     where
       equivalence_swapped : {c : Connective} {f g : Form} → WellTyped symbols (Form.binary c f g) → WellTyped symbols (Form.binary c g f)
       equivalence_swapped (WellTyped.binary h g) = WellTyped.binary g h
+  restated_typed Restated.claim w = WellTyped.binary w WellTyped.truth
+  restated_typed Restated.denial w = denied w
+    where
+      denied : {f : Form} → WellTyped symbols (Form.negation f) → WellTyped symbols (iff f Form.falsity)
+      denied (WellTyped.negation h) = WellTyped.binary h WellTyped.falsity
 
   under_term : {q : Quantifier} {t : Ty} {f : Form} → WellTyped symbols (Form.quantified q t f)
       → (n : ℕ) × IsFresh n (Form.quantified q t f) × IsType symbols 0 t × WellTyped symbols (at_term f (Term.eps n t))
@@ -75,23 +86,23 @@ module _ (symbols : List Symbol) where
   length_opened k o (Binder.of_type ∷ bs) = ap suc (length_opened (k + 1) o bs)
   length_opened k o (Binder.of_term t ∷ bs) = ap suc (length_opened (k + 1) o bs)
 
-  pub swapped_prenex : (n : ℕ) (bs : List Binder) → length bs ≡ n → (f g : Form) → Swapped f g → WellTyped symbols (prenex bs f) → WellTyped symbols (prenex bs g)
-  swapped_prenex n [] e f g s w = swapped_typed s w
-  swapped_prenex zero (b ∷ bs) e f g s w = absurd (omega (arith, e))
-  swapped_prenex (suc n) (Binder.of_type ∷ bs) e f g s w =
+  pub restated_prenex : (n : ℕ) (bs : List Binder) → length bs ≡ n → (f g : Form) → Restated f g → WellTyped symbols (prenex bs f) → WellTyped symbols (prenex bs g)
+  restated_prenex n [] e f g s w = restated_typed s w
+  restated_prenex zero (b ∷ bs) e f g s w = absurd (omega (arith, e))
+  restated_prenex (suc n) (Binder.of_type ∷ bs) e f g s w =
       let x = under_type w in
       let o : Opening = Opening.of_type (Ty.param x.0) in
       let l : length (open_binders 0 o bs) ≡ n = omega (arith, length_opened 0 o bs, e) in
-      let ih = swapped_prenex n (open_binders 0 o bs) l (open_at (0 + length bs) o f) (open_at (0 + length bs) o g) (swapped_opened (0 + length bs) o s)
+      let ih = restated_prenex n (open_binders 0 o bs) l (open_at (0 + length bs) o f) (open_at (0 + length bs) o g) (restated_opened (0 + length bs) o s)
       (subst (WellTyped symbols) (open_prenex 0 o bs f) x.2) in
-      WellTyped.quantified_types x.0 (swapped_each_prenex (IsNot x.0) bs s x.1) (subst (WellTyped symbols) (sym (open_prenex 0 o bs g)) ih)
-  swapped_prenex (suc n) (Binder.of_term t ∷ bs) e f g s w =
+      WellTyped.quantified_types x.0 (restated_each_prenex (IsNot x.0) bs s x.1) (subst (WellTyped symbols) (sym (open_prenex 0 o bs g)) ih)
+  restated_prenex (suc n) (Binder.of_term t ∷ bs) e f g s w =
       let x = under_term w in
       let o : Opening = Opening.of_term (Term.eps x.0 t) in
       let l : length (open_binders 0 o bs) ≡ n = omega (arith, length_opened 0 o bs, e) in
-      let ih = swapped_prenex n (open_binders 0 o bs) l (open_at (0 + length bs) o f) (open_at (0 + length bs) o g) (swapped_opened (0 + length bs) o s)
+      let ih = restated_prenex n (open_binders 0 o bs) l (open_at (0 + length bs) o f) (open_at (0 + length bs) o g) (restated_opened (0 + length bs) o s)
       (subst (WellTyped symbols) (open_prenex 0 o bs f) x.3) in
-      WellTyped.quantified x.0 (x.1.0, swapped_each_prenex (IsNot x.0) bs s x.1.1) x.2 (subst (WellTyped symbols) (sym (open_prenex 0 o bs g)) ih)
+      WellTyped.quantified x.0 (x.1.0, restated_each_prenex (IsNot x.0) bs s x.1.1) x.2 (subst (WellTyped symbols) (sym (open_prenex 0 o bs g)) ih)
 
 -- P of each rule of a list
 abbrev pub EachRule : (Rule → Type 0) → List Rule → Type 0
@@ -159,13 +170,35 @@ module _ (symbols : List Symbol) (bs : List Binder) where
   equivalence_sound (Form.quantified q t f) g w x y = tt
   equivalence_sound (Form.quantified_types q f) g w x y = tt
 
+  claim_sound : (p : ℕ) (ts : Tys) (us : Terms) → WellTyped symbols (prenex bs (Form.atom p ts us)) → EachIn Never (Form.atom p ts us)
+      → EachRule (IsSoundReading symbols) (body_readings bs (Form.atom p ts us))
+  claim_sound p ts us w x =
+      let v = restated_prenex symbols (length bs) bs refl (Form.atom p ts us) (iff (Form.atom p ts us) Form.truth) Restated.claim w in
+      let c = body_is_closed (Form.atom p ts us) w in
+      (record { typed = v; left_closed = c; right_closed = tt; left_parameters = x; right_parameters = tt; pattern = tt }, tt)
+
+  denial_sound : (f : Form) → WellTyped symbols (prenex bs (Form.negation f)) → EachIn Never f → EachRule (IsSoundReading symbols) (negation_read bs f)
+  denial_sound (Form.atom p ts us) w x =
+      let v = restated_prenex symbols (length bs) bs refl (Form.negation (Form.atom p ts us)) (iff (Form.atom p ts us) Form.falsity) Restated.denial w in
+      let c = body_is_closed (Form.negation (Form.atom p ts us)) w in
+      (record { typed = v; left_closed = c; right_closed = tt; left_parameters = x; right_parameters = tt; pattern = tt }, tt)
+  denial_sound (Form.equal t a b) w x = tt
+  denial_sound Form.truth w x = tt
+  denial_sound Form.falsity w x = tt
+  denial_sound (Form.negation f) w x = tt
+  denial_sound (Form.binary c f h) w x = tt
+  denial_sound (Form.quantified q t f) w x = tt
+  denial_sound (Form.quantified_types q f) w x = tt
+
   readings_sound : (f : Form) → WellTyped symbols (prenex bs f) → EachIn Never f → EachRule (IsSoundReading symbols) (body_readings bs f)
   readings_sound (Form.equal t a b) w x =
       each_rule_append (IsSoundReading symbols) (equality_read bs a b) (equality_read bs b a) (equality_sound t a b w x.1 x.2)
-      (equality_sound t b a (swapped_prenex symbols (length bs) bs refl (Form.equal t a b) (Form.equal t b a) Swapped.equality w) x.2 x.1)
+      (equality_sound t b a (restated_prenex symbols (length bs) bs refl (Form.equal t a b) (Form.equal t b a) Restated.equality w) x.2 x.1)
   readings_sound (Form.binary Connective.equivalence f g) w x =
       each_rule_append (IsSoundReading symbols) (equivalence_read bs f g) (equivalence_read bs g f) (equivalence_sound f g w x.0 x.1)
-      (equivalence_sound g f (swapped_prenex symbols (length bs) bs refl (iff f g) (iff g f) Swapped.equivalence w) x.1 x.0)
+      (equivalence_sound g f (restated_prenex symbols (length bs) bs refl (iff f g) (iff g f) Restated.equivalence w) x.1 x.0)
+  readings_sound (Form.atom p ts us) w x = claim_sound p ts us w x
+  readings_sound (Form.negation f) w x = denial_sound f w x
   readings_sound _ w x = tt
 
 free_body : (f : Form) → EachIn Never f → EachIn Never (body f)

@@ -1,16 +1,16 @@
 -- The worked examples.
 use Rattle.std.proofs.Common.{ℕ, zero, suc, ◌≡◌, ◌≢◌, ◌<◌, ◌+◌, refl, ap, sym, ◌∙◌, subst, arith, inl, inr, true, List, [], ◌∷◌, length}
 use Rattle.zm_logic.specs.Tree.{Ty, Tys, Term, Terms, Form, Connective, Opening, Binder, Side, Rule, Role}
-use Rattle.zm_logic.specs.Opening.{open_at, type_instance, types_instance}
+use Rattle.zm_logic.specs.Opening.{open_at, type_instance, types_instance, side_instance}
 use Rattle.zm_logic.specs.Index.{side_has}
 use Rattle.zm_logic.specs.Typing.{individual}
 use Rattle.zm_logic.specs.Rewriting.{IsRedex, Fit}
 use Rattle.rule_select.specs.Reading.{term_rule, form_rule}
 use Rattle.rule_select.specs.Part.{IsPart, IsPartOfSome}
-use Rattle.rule_select.specs.Lawful.{IsLawful, FirstLawful}
+use Rattle.rule_select.specs.Lawful.{parameters_of, IsLawful, FirstLawful}
 use Rattle.rule_select.specs.Selection.{Sorts}
 use Rattle.rule_select.specs.Worked as worked
-use Rattle.rule_select.proofs.Instances.{term_instance, terms_instance, side_of_term, side_of_form, app_instance, atom_instance, equal_instance}
+use Rattle.rule_select.proofs.Instances.{term_instance, terms_instance, form_instance, side_of_term, side_of_form, app_instance, atom_instance, equal_instance}
 
 -- each predicate in the formula meets A, and each equality in it meets E
 abbrev EachAtomic : (ℕ → Type 0) → Type 0 → Form → Type 0
@@ -162,6 +162,32 @@ pub both_directions_are_tried : worked.BothDirectionsAreTried
 both_directions_are_tried =
     Sorts.rule (FirstLawful.later (λ l. let e = l.bound 0 (omega arith) in cc (e)) (FirstLawful.first turned))
     (Sorts.rule (FirstLawful.first turned_term) Sorts.done)
+
+-- an atom of variables is a rule to a formula without atoms
+to_constant : (g : Form) → EachAtomicIn (λ q. q ≢ 1) (Unit {0}) (Side.of_form (form_instance (parameters_of one_binder) g))
+    → IsLawful Role.axiom_role (form_rule one_binder (worked.predicate_of 1 (Term.bound 0)) g)
+to_constant g h = record {
+  bound = one_bound (Side.of_form (worked.predicate_of 1 (Term.bound 0))) refl;
+  ends = λ x part redex. no_atom_part 1 Tys.none (Terms.more (Term.bound 0) Terms.none) one_binder g x
+      (side_instance (parameters_of one_binder) (Side.of_form g)) (subst (EachAtomicIn (λ q. q ≢ 1) (Unit {0})) (sym (side_of_form (parameters_of one_binder) g)) h) part redex;
+  meant = inl (not_empty (Binder.of_term individual) []);
+}
+
+claimed : IsLawful Role.definition (form_rule [] (worked.predicate 1) Form.truth)
+claimed = record {
+  bound = λ i l. absurd (omega arith);
+  ends = λ x part redex. no_atom_part 1 Tys.none Terms.none [] Form.truth x _ tt part redex;
+  meant = inr refl;
+}
+
+pub atoms_are_rules : worked.AtomsAreRules
+atoms_are_rules =
+    Sorts.rule (FirstLawful.first (to_constant Form.truth tt))
+    (Sorts.rule (FirstLawful.first (to_constant Form.falsity tt))
+    (Sorts.rule (FirstLawful.first claimed)
+    (Sorts.keep (λ r h. none_of_one (no_definition (form_rule [] (worked.predicate 1) Form.truth) refl) h)
+    (Sorts.keep (λ r h. elim h [ ])
+    Sorts.done))))
 
 pub circular_definitions_are_kept : worked.CircularDefinitionsAreKept
 circular_definitions_are_kept =

@@ -57,10 +57,17 @@ equality_read bs a b = if is_variable a then [] else (term_rule bs a b ∷ [])
 abbrev pub equivalence_read : List Binder → Form → Form → List Rule
 equivalence_read bs f g = if is_definable f then (form_rule bs f g ∷ []) else []
 
--- the rules that a body may be read as, left to right first. An equality is no atom here.
+-- the negation of f, read from f to falsity, where f is an atom. An equality is no atom here.
+abbrev pub negation_read : List Binder → Form → List Rule
+negation_read bs (Form.atom p ts us) = form_rule bs (Form.atom p ts us) Form.falsity ∷ []
+negation_read bs _ = []
+
+-- the rules that a body may be read as: an equality and an equivalence left to right first, an atom to truth
 abbrev pub body_readings : List Binder → Form → List Rule
 body_readings bs (Form.equal t a b) = equality_read bs a b ++ equality_read bs b a
 body_readings bs (Form.binary Connective.equivalence f g) = equivalence_read bs f g ++ equivalence_read bs g f
+body_readings bs (Form.atom p ts us) = form_rule bs (Form.atom p ts us) Form.truth ∷ []
+body_readings bs (Form.negation f) = negation_read bs f
 body_readings bs _ = []
 
 -- the rules that a formula may be read as, in the order in which they are tried

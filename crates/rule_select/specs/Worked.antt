@@ -67,6 +67,33 @@ circular = for_all individual (iff (predicate_of 1 (Term.bound 0)) (for_all indi
 abbrev pub CircularDefinitionsAreKept : Type 0
 CircularDefinitionsAreKept = Sorts 0 (premise Role.definition circular ∷ []) [] (None ∷ [])
 
+-- ! [X] : p(X),  ! [X] : ~p(X)  and  ! [X] : ~ X = X
+abbrev pub claim : Form
+claim = for_all individual (predicate_of 1 (Term.bound 0))
+
+abbrev pub denial : Form
+denial = for_all individual (Form.negation (predicate_of 1 (Term.bound 0)))
+
+abbrev pub denied_equality : Form
+denied_equality = for_all individual (Form.negation (Form.equal individual (Term.bound 0) (Term.bound 0)))
+
+-- an atom of variables is the rule to truth, a negated one the rule to falsity. Without a variable it is a rule as a
+-- definition, and kept as an axiom. An equality is no atom.
+abbrev pub AtomsAreRules : Type 0
+AtomsAreRules =
+    Sorts 0
+    (premise Role.axiom_role claim
+    ∷ premise Role.axiom_role denial
+    ∷ premise Role.definition (predicate 1)
+    ∷ premise Role.axiom_role (predicate 1)
+    ∷ premise Role.axiom_role denied_equality
+    ∷ [])
+    (form_rule (Binder.of_term individual ∷ []) (predicate_of 1 (Term.bound 0)) Form.truth
+    ∷ form_rule (Binder.of_term individual ∷ []) (predicate_of 1 (Term.bound 0)) Form.falsity
+    ∷ form_rule [] (predicate 1) Form.truth
+    ∷ [])
+    (Some 0 ∷ Some 1 ∷ Some 2 ∷ None ∷ None ∷ [])
+
 -- ! [X: t, Y: t] : (X = Y <=> q),  ! [A: $tType, X: A, Y: A] : (X = Y <=> q)  and  ! [X: c] : (X = X <=> q)
 abbrev pub equality_at : Ty → Form
 equality_at t = for_all t (for_all t (iff (Form.equal t (Term.bound 1) (Term.bound 0)) (predicate 2)))

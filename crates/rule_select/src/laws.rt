@@ -6,7 +6,7 @@ ghost use Rattle.rule_select.specs.Laws.{KeepingAllKeepsThePremises, SelectedRul
 ghost use Rattle.rule_select.specs.Laws.{SelectedRulesHaveNoParameter, StepsKeepTyping};
 ghost use Rattle.rule_select.specs.Worked.{CommutativityIsKept, DefinitionsAreRules, BothDirectionsAreTried};
 ghost use Rattle.rule_select.specs.Worked.{CircularDefinitionsAreKept, EqualitiesAtDeclaredTypesAreDefined};
-ghost use Rattle.rule_select.specs.Worked.{InclusionAndExtensionalityAreRules};
+ghost use Rattle.rule_select.specs.Worked.{AtomsAreRules, InclusionAndExtensionalityAreRules};
 
 /// A problem has no two selections with rules.
 #[tactic(auto, using(crate::proofs::Sorted::selection_is_determined))]
@@ -87,6 +87,13 @@ pub fn both_directions_are_tried()
 #[tactic(auto, using(crate::proofs::Worked::circular_definitions_are_kept))]
 pub fn circular_definitions_are_kept()
     ensures { CircularDefinitionsAreKept }
+{}
+
+/// `! [X] : p(X)` is the rule `p(X) --> $true`, and `! [X] : ~p(X)` is `p(X) --> $false`. `p` is the rule `p --> $true` as
+/// a definition, and kept as an axiom. `! [X] : X != X` is kept.
+#[tactic(auto, using(crate::proofs::Worked::atoms_are_rules))]
+pub fn atoms_are_rules()
+    ensures { AtomsAreRules }
 {}
 
 /// `! [X: c, Y: c] : (X = Y <=> q)` is a rule for a declared type `c`; it is kept for individuals, at a type variable, and
