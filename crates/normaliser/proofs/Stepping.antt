@@ -1,20 +1,23 @@
 -- Step by step to the answer, over the ids of a store.
-use Rattle.std.proofs.Common.{ℕ, ◌≡◌, ◌+◌, ◌<◌, ◌≤◌, sym, ap, subst, ◌∙◌, arith, List, Some, None}
+use Rattle.std.proofs.Common.{ℕ, ◌≡◌, ◌+◌, ◌<◌, ◌≤◌, Bool, true, false, refl, sym, ap, subst, ◌∙◌, arith, List, Option, Some, None, is_some}
 use Rattle.zm_logic.specs.Tree as tree
-use Rattle.zm_logic.specs.View.{form_tree}
 use Rattle.zm_logic.specs.declared.tree.Form.{Form}
 use Rattle.zm_logic.specs.Measure.{depth}
-use Rattle.zm_logic.specs.Typing.{WellTyped}
 use Rattle.term_store.specs.declared.ids.FormId.{FormId}
 use Rattle.term_store.specs.Trees.{Tables, HasForm, form_of, Extends}
 use Rattle.term_store.proofs.Kept.{extends_itself, extends_more, still_form, kept_form}
-use Rattle.rule_index.specs.Usable.{AreUsable}
 use Rattle.normaliser.specs.NextStep.{next_step}
 use Rattle.normaliser.specs.NormalForm.{Answer, Runs, Outcome, normal_form}
-use Rattle.normaliser.specs.Meaning.{KeepsTyping, Meets}
 use Rattle.normaliser.specs.View.{some_form}
+use Rattle.normaliser.specs.Answered.{some_tree, IsTooDeep, IfStopped, IfDeepAt, IfSpentFrom}
+use Rattle.normaliser.specs.declared.normalising.NormalStop.{NormalStop}
+use Rattle.normaliser.specs.declared.normalising.NormalStop.TheVariants as stops
 use Rattle.normaliser.proofs.Outcomes.{run_ends, outcome_is_run, joined_runs}
-use Rattle.normaliser.proofs.Meets.{outcome_meets}
+
+-- there is a tree where there is a formula
+pub some_is_some : (m : Option Form) → is_some (some_form m) ≡ is_some m
+some_is_some None = refl
+some_is_some (Some f) = refl
 
 -- in the store s, which extends r, the formula is led to another by so many steps, each reduct within 2,000
 pub record IsLed (rules : List tree.Rule) (limit : ℕ) (form : FormId) (r s : Tables) (reached : FormId) (steps : ℕ) : Type 0 where
@@ -29,67 +32,63 @@ led_start rules limit form r h l = record { kept = extends_itself r; has = h; wi
 
 module _ (rules : List tree.Rule) (limit : ℕ) (form : FormId) (r s : Tables) (reached : FormId) (steps : ℕ)
     (led : IsLed rules limit form r s reached steps) where
-  abbrev Ends : Answer tree.Form → Type 0
-  Ends a = Outcome (next_step rules) depth 2000 limit (form_of r form) a
-
-  pub led_on : (t : Tables) (id : FormId) (next : Form) → some_form (Some next) ≡ next_step rules (form_of s reached) → steps < limit
-      → Extends s t → HasForm t id → form_of t id ≡ form_tree next → depth (form_tree next) ≤ 2000
-      → IsLed rules limit form r t id (steps + 1)
-  led_on t id next e l x h is d = record {
+  pub led_on : (t : Tables) (next : FormId) → some_tree t (Some next) ≡ next_step rules (form_of s reached) → steps < limit
+      → Extends s t → HasForm t next → depth (form_of t next) ≤ 2000 → IsLed rules limit form r t next (steps + 1)
+  led_on t next e l x h d = record {
     kept = extends_more r s t led.kept x;
     has = h;
     within = omega (arith, l);
-    runs =
-        subst (λ g. Runs (next_step rules) depth 2000 (form_of r form) (steps + 1) g) (sym is)
-        (joined_runs (next_step rules) depth 2000 led.runs (Runs.step (run_ends (next_step rules) depth 2000 led.runs) (sym e) (Runs.done d)));
+    runs = joined_runs (next_step rules) depth 2000 led.runs (Runs.step (run_ends (next_step rules) depth 2000 led.runs) (sym e) (Runs.done d));
   }
 
-  ends_reached : some_form None ≡ next_step rules (form_of s reached) → Ends (Answer.reached (form_of s reached) steps)
-  ends_reached e = Outcome.reached led.runs (sym e) led.within
-
-  ends_spent : (next : Form) → some_form (Some next) ≡ next_step rules (form_of s reached) → limit ≤ steps → Ends Answer.spent
-  ends_spent next e l =
-      let is : steps ≡ limit = omega (arith, l, led.within) in
-      Outcome.spent (subst (λ k. Runs (next_step rules) depth 2000 (form_of r form) k (form_of s reached)) is led.runs) (sym e)
-
-  ends_deep : (t : Tables) (next : Form) → some_form (Some next) ≡ next_step rules (form_of s reached) → steps < limit → Extends s t
-      → 2000 < depth (form_tree next) → Ends (Answer.deep (form_of t reached))
-  ends_deep t next e l x d =
-      subst (λ g. Ends (Answer.deep g)) (sym (kept_form s t x reached led.has)) (Outcome.deep led.runs l (sym e) d)
-
-  is_answer : {a : Answer tree.Form} → Ends a → a ≡ normal_form rules limit (form_of r form)
+  is_answer : {a : Answer tree.Form} → Outcome (next_step rules) depth 2000 limit (form_of r form) a → a ≡ normal_form rules limit (form_of r form)
   is_answer o = outcome_is_run (next_step rules) depth 2000 limit (form_of r form) o
 
-  meets : {a : Answer tree.Form} → Ends a → (symbols : List tree.Symbol) → AreUsable rules → KeepsTyping symbols rules
-      → WellTyped symbols (form_of r form) → Meets rules limit (form_of r form) a
-  meets o symbols ok keep w = outcome_meets symbols rules ok keep limit (form_of r form) w o
+  pub reached_answers : (t : Tables) → Extends s t → None ≡ next_step rules (form_of s reached)
+      → Answer.reached (form_of t reached) steps ≡ normal_form rules limit (form_of r form)
+  reached_answers t x e =
+      ap (λ g. Answer.reached g steps) (kept_form s t x reached led.has) ∙ is_answer (Outcome.reached led.runs (sym e) led.within)
 
-  pub reached_answers : some_form None ≡ next_step rules (form_of s reached)
-      → Answer.reached (form_of s reached) steps ≡ normal_form rules limit (form_of r form)
-  reached_answers e = is_answer (ends_reached e)
-
-  pub reached_meets : some_form None ≡ next_step rules (form_of s reached)
-      → (symbols : List tree.Symbol) → AreUsable rules → KeepsTyping symbols rules
-      → WellTyped symbols (form_of r form) → Meets rules limit (form_of r form) (Answer.reached (form_of s reached) steps)
-  reached_meets e symbols ok keep w = meets (ends_reached e) symbols ok keep w
-
-  pub spent_answers : (next : Form) → some_form (Some next) ≡ next_step rules (form_of s reached) → limit ≤ steps
+  pub spent_answers : steps ≡ limit → true ≡ is_some (next_step rules (form_of s reached))
       → Answer.spent ≡ normal_form rules limit (form_of r form)
-  spent_answers next e l = is_answer (ends_spent next e l)
+  spent_answers is e = go (next_step rules (form_of s reached)) refl e
+    where
+      go : (m : Option tree.Form) → next_step rules (form_of s reached) ≡ m → true ≡ is_some m → Answer.spent ≡ normal_form rules limit (form_of r form)
+      go None d e = cc
+      go (Some g) d e =
+          is_answer (Outcome.spent (subst (λ k. Runs (next_step rules) depth 2000 (form_of r form) k (form_of s reached)) is led.runs) d)
 
-  pub spent_meets : (next : Form) → some_form (Some next) ≡ next_step rules (form_of s reached) → limit ≤ steps
-      → (symbols : List tree.Symbol) → AreUsable rules → KeepsTyping symbols rules
-      → WellTyped symbols (form_of r form) → Meets rules limit (form_of r form) Answer.spent
-  spent_meets next e l symbols ok keep w = meets (ends_spent next e l) symbols ok keep w
+  pub end_answers : steps ≡ limit → false ≡ is_some (next_step rules (form_of s reached))
+      → Answer.reached (form_of s reached) limit ≡ normal_form rules limit (form_of r form)
+  end_answers is e = go (next_step rules (form_of s reached)) refl e
+    where
+      go : (m : Option tree.Form) → next_step rules (form_of s reached) ≡ m → false ≡ is_some m
+          → Answer.reached (form_of s reached) limit ≡ normal_form rules limit (form_of r form)
+      go None d e = ap (Answer.reached (form_of s reached)) (sym is) ∙ is_answer (Outcome.reached led.runs d led.within)
+      go (Some g) d e = cc
 
-  pub deep_answers : (t : Tables) (next : Form) → some_form (Some next) ≡ next_step rules (form_of s reached) → steps < limit → Extends s t
-      → 2000 < depth (form_tree next) → Answer.deep (form_of t reached) ≡ normal_form rules limit (form_of r form)
-  deep_answers t next e l x d = is_answer (ends_deep t next e l x d)
+  pub deep_answers : (t : Tables) → Extends s t → steps < limit → IsTooDeep (next_step rules (form_of s reached))
+      → Answer.deep (form_of t reached) ≡ normal_form rules limit (form_of r form)
+  deep_answers t x l e = go (next_step rules (form_of s reached)) refl e
+    where
+      go : (m : Option tree.Form) → next_step rules (form_of s reached) ≡ m → IsTooDeep m → Answer.deep (form_of t reached) ≡ normal_form rules limit (form_of r form)
+      go None d e = absurd e
+      go (Some g) d e = ap Answer.deep (kept_form s t x reached led.has) ∙ is_answer (Outcome.deep led.runs l d e)
 
-  pub deep_meets : (t : Tables) (next : Form) → some_form (Some next) ≡ next_step rules (form_of s reached) → steps < limit → Extends s t
-      → 2000 < depth (form_tree next) → (symbols : List tree.Symbol) → AreUsable rules → KeepsTyping symbols rules
-      → WellTyped symbols (form_of r form) → Meets rules limit (form_of r form) (Answer.deep (form_of t reached))
-  deep_meets t next e l x d symbols ok keep w = meets (ends_deep t next e l x d) symbols ok keep w
+  -- where the step is refused
+  pub stop_answers : (t : Tables) → Extends s t → steps < limit → (stop : NormalStop)
+      → IfDeepAt (λ at. (at ≡ reached) × IsTooDeep (next_step rules (form_of s reached))) stop → IfSpentFrom (λ from. ⊥) stop
+      → IfStopped t (λ a. a ≡ normal_form rules limit (form_of r form)) stop
+  stop_answers t x l stops.Memory d e = tt
+  stop_answers t x l (stops.Spent i) d e = absurd e
+  stop_answers t x l (stops.Deep i) d e =
+      subst (λ at. Answer.deep (form_of t at) ≡ normal_form rules limit (form_of r form)) (sym d.0) (deep_answers t x l d.1)
+
+  pub stop_has : (t : Tables) → Extends s t → (stop : NormalStop)
+      → IfDeepAt (λ at. (at ≡ reached) × IsTooDeep (next_step rules (form_of s reached))) stop → IfDeepAt (HasForm t) stop
+  stop_has t x stops.Memory d = tt
+  stop_has t x (stops.Spent i) d = tt
+  stop_has t x (stops.Deep i) d = subst (HasForm t) (sym d.0) (still_form s t x reached led.has)
 
   pub led_has : (t : Tables) → Extends s t → HasForm t reached
   led_has t x = still_form s t x reached led.has

@@ -1,11 +1,22 @@
 -- What holds of an answer, where memory wasn't wanting.
-use Rattle.std.specs.Prelude.{ℕ, Result, Ok, Err}
+use Rattle.std.specs.Prelude.{ℕ, ◌<◌, Result, Ok, Err, Option, Some, None}
 use Rattle.zm_logic.specs.Tree.{Form}
+use Rattle.zm_logic.specs.Measure.{depth}
 use Rattle.term_store.specs.Trees.{Tables, form_of}
 use Rattle.term_store.specs.declared.ids.FormId.{FormId}
 use Rattle.normaliser.specs.NormalForm.{Answer}
 use Rattle.normaliser.specs.declared.normalising.NormalStop.{NormalStop}
 use Rattle.normaliser.specs.declared.normalising.NormalStop.TheVariants as stops
+
+-- the tree of an id, where there is one
+abbrev pub some_tree : Tables → Option FormId → Option Form
+some_tree s None = None
+some_tree s (Some i) = Some (form_of s i)
+
+-- there is a formula, and it is deeper than 2,000
+abbrev pub IsTooDeep : Option Form → Type 0
+IsTooDeep None = ⊥
+IsTooDeep (Some f) = 2000 < depth f
 
 -- the answer over the trees of a store
 abbrev pub IfStopped : Tables → (Answer Form → Type 0) → NormalStop → Type 0
