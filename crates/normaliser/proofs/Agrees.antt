@@ -2,10 +2,10 @@
 use Rattle.std.proofs.Common.{ℕ, ◌≡◌, ◌+◌, ◌≤◌, max, zero, suc, refl, ap, sym, ◌∙◌, subst, arith, List, [], ◌∷◌, Option, Some, None}
 use Rattle.std.specs.List.{Contains}
 use Rattle.zm_logic.specs.Tree.{Ty, Term, Terms, Form, Opening, Side, Rule}
-use Rattle.zm_logic.specs.Opening.{side_instance, open_at, at_term, at_type, close}
+use Rattle.zm_logic.specs.Opening.{open_at, at_term, at_type, close}
 use Rattle.zm_logic.specs.Parameter.{IsFresh}
 use Rattle.zm_logic.specs.Index.{IsClosedTerm, AreClosedTerms, IsClosed}
-use Rattle.zm_logic.specs.Rewriting.{Fit, IsRedex, Rewrites, RewritesBySome, TermStep, TermsStep, Step}
+use Rattle.zm_logic.specs.Rewriting.{Rewrites, RewritesBySome, TermStep, TermsStep, Step}
 use Rattle.zm_logic.specs.Innermost.{FirstRewrites, IsNormalTerm, AreNormalTerms, IsNormal, HasNormalParts, InnermostTermStep, InnermostTermsStep, InnermostStep}
 use Rattle.zm_logic.proofs.Each.{some_fresh, some_fresh_both}
 use Rattle.zm_logic.proofs.Opened.{by_eps, by_param, close_at_eps, close_at_param}
@@ -14,10 +14,10 @@ use Rattle.rule_index.specs.Instance.{put}
 use Rattle.rule_index.specs.Matching.{match_side, put_some, rewrite, or_else, first_rewrite}
 use Rattle.normaliser.specs.NextStep.{under, as_term, as_form, root_term, root_form, next_term, next_terms, next_step}
 use Rattle.rule_index.specs.Usable.{AreSides, IsUsable, AreUsable}
-use Rattle.rule_index.proofs.Matched.{match_is_sound, match_is_complete}
+use Rattle.rule_index.proofs.Matched.{match_is_sound}
 use Rattle.normaliser.proofs.Fresh.{next_step_opened}
 use Rattle.normaliser.proofs.KeepsFresh.{step_is_fresh}
-use Rattle.rule_index.proofs.Redex.{rewrites_is, is_rewrites, first_is, is_first}
+use Rattle.rule_index.proofs.Redex.{rewrites_is, first_is, is_first}
 use Rattle.rule_index.proofs.Scope.{IsScoped, IsScopedType, scoped_is_closed, scoped_type_is_closed, scoped_at_eps, scoped_at_param}
 
 -- the number of formulas on the longest way down, which opening leaves alone

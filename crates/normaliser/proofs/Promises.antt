@@ -2,13 +2,13 @@
 use Rattle.std.proofs.Common.{◌≡◌, sym, ◌∙◌, subst, Option, Some}
 use Rattle.zm_logic.specs.Tree.{Form}
 use Rattle.normaliser.specs.Laws as laws
-use Rattle.normaliser.specs.NormalForm.{Answer}
 use Rattle.normaliser.specs.Meaning.{Meets}
 use Rattle.rule_index.proofs.Scope.{typed_is_scoped}
 use Rattle.rule_select.proofs.Selected.{steps_keep_typing}
 use Rattle.rule_index.proofs.Promises.{selected_rules_are_usable}
 use Rattle.normaliser.proofs.Agrees.{none_is_normal, next_step_is, step_is_next, normal_is_none}
 use Rattle.normaliser.proofs.Evaluated.{by_parts_is_normal_form}
+use Rattle.normaliser.proofs.Memo.{knows_stays}
 use Rattle.normaliser.proofs.Meets.{normal_form_meets, meets_is_normal_form}
 
 pub next_step_is_innermost : laws.NextStepIsInnermost
@@ -36,3 +36,6 @@ parts_first_agrees rules limit f d = by_parts_is_normal_form rules limit f d
 pub selected_rules_keep_typing : laws.SelectedRulesKeepTyping
 selected_rules_keep_typing p s typed selects =
     (selected_rules_are_usable p s typed selects, λ f g step w. (steps_keep_typing p s f g typed selects w step).0)
+
+pub kept_forms_stay : laws.KeptFormsStay
+kept_forms_stay s t n x h = knows_stays s t n x h

@@ -1,5 +1,5 @@
 -- Step by step to the answer, over the ids of a store.
-use Rattle.std.proofs.Common.{ℕ, ◌≡◌, ◌+◌, ◌<◌, ◌≤◌, Bool, true, false, refl, sym, ap, subst, ◌∙◌, arith, List, Option, Some, None, is_some}
+use Rattle.std.proofs.Common.{ℕ, ◌≡◌, ◌+◌, ◌<◌, ◌≤◌, true, false, refl, sym, ap, subst, ◌∙◌, arith, List, Option, Some, None, is_some}
 use Rattle.zm_logic.specs.Tree as tree
 use Rattle.zm_logic.specs.declared.tree.Form.{Form}
 use Rattle.zm_logic.specs.Measure.{depth}

@@ -5,12 +5,15 @@ use Rattle.zm_logic.specs.Measure.{depth}
 use Rattle.zm_logic.specs.Typing.{WellTyped}
 use Rattle.zm_logic.specs.Problem.{IsTypedProblem}
 use Rattle.zm_logic.specs.Innermost.{IsNormal, InnermostStep}
+use Rattle.term_store.specs.Trees.{Tables, Extends}
 use Rattle.rule_select.specs.Selection.{Selection, IsSelection}
 use Rattle.rule_index.specs.Usable.{AreUsable}
 use Rattle.normaliser.specs.NextStep.{next_step}
 use Rattle.normaliser.specs.NormalForm.{Answer, normal_form}
 use Rattle.normaliser.specs.Evaluate.{by_parts}
 use Rattle.normaliser.specs.Meaning.{KeepsTyping, Meets}
+use Rattle.normaliser.specs.Kept.{Knows}
+use Rattle.normaliser.specs.declared.keeping.Normaliser.{Normaliser}
 
 -- the next step of a well typed formula is the leftmost innermost one
 abbrev pub NextStepIsInnermost : Type 0
@@ -45,3 +48,7 @@ PartsFirstAgrees = (rules : List Rule) (limit : ℕ) (f : Form) → depth f ≤ 
 abbrev pub SelectedRulesKeepTyping : Type 0
 SelectedRulesKeepTyping =
     (p : Problem) (s : Selection) → IsTypedProblem p → IsSelection p s → AreUsable s.rules × KeepsTyping p.symbols s.rules
+
+-- what a normaliser keeps stays right while the store grows
+abbrev pub KeptFormsStay : Type 0
+KeptFormsStay = (s t : Tables) (n : Normaliser) → Extends s t → Knows s n → Knows t n

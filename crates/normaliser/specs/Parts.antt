@@ -1,5 +1,5 @@
 -- The leftmost innermost step in the parts of a formula, its root left aside.
-use Rattle.std.specs.Prelude.{List, Option, Some, None}
+use Rattle.std.specs.Prelude.{List, Option, None}
 use Rattle.zm_logic.specs.Tree.{Form, Rule}
 use Rattle.rule_index.specs.Matching.{or_else}
 use Rattle.normaliser.specs.NextStep.{under, next_term, next_terms, next_step}

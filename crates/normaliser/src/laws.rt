@@ -6,6 +6,7 @@ ghost use Rattle.normaliser.specs.Laws.{InnermostStepIsDetermined};
 ghost use Rattle.normaliser.specs.Laws.{NormalFormMeetsTheSteps};
 ghost use Rattle.normaliser.specs.Laws.{PartsFirstAgrees};
 ghost use Rattle.normaliser.specs.Laws.{SelectedRulesKeepTyping};
+ghost use Rattle.normaliser.specs.Laws.{KeptFormsStay};
 
 /// The next step of a well typed formula is the leftmost innermost one.
 #[tactic(auto, using(crate::proofs::Promises::next_step_is_innermost))]
@@ -41,4 +42,10 @@ pub fn parts_first_agrees()
 #[tactic(auto, using(crate::proofs::Promises::selected_rules_keep_typing))]
 pub fn selected_rules_keep_typing()
     ensures { SelectedRulesKeepTyping }
+{}
+
+/// What a normaliser keeps stays right while the store grows.
+#[tactic(auto, using(crate::proofs::Promises::kept_forms_stay))]
+pub fn kept_forms_stay()
+    ensures { KeptFormsStay }
 {}

@@ -60,12 +60,7 @@ fn next_of(
 
 // Whether a stored formula has a step.
 #[tactic(auto, using(crate::proofs::Stepping::some_is_some))]
-fn has_step(
-    alloc: Global,
-    store: &Store,
-    index: &Index,
-    form: FormId,
-) -> Result<bool, AllocError>
+fn has_step(alloc: Global, store: &Store, index: &Index, form: FormId) -> Result<bool, AllocError>
     requires { HasForm store.now form }
     ensures { IfOk result (λ has. has ≡ is_some (next_step (rules_of index.now) (form_of store.now form))) }
 {

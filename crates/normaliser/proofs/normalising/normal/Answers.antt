@@ -1,4 +1,4 @@
-use Rattle.std.proofs.Common.{ℕ, ◌≡◌, ◌<◌, ◌≤◌, sym, ap, subst, ◌∙◌, arith, IfSome}
+use Rattle.std.proofs.Common.{◌≡◌, ◌≤◌, sym, ap, subst, ◌∙◌, arith, IfSome}
 use Rattle.zm_logic.specs.Measure.{depth}
 use Rattle.term_store.specs.Trees.{HasForm, form_of}
 use Rattle.normaliser.specs.Answered.{some_tree}

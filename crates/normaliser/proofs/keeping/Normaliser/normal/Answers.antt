@@ -1,4 +1,4 @@
-use Rattle.std.proofs.Common.{ℕ, ◌≡◌, ◌<◌, ◌≤◌, sym, arith}
+use Rattle.std.proofs.Common.{sym, arith}
 use Rattle.term_store.specs.Trees.{form_of}
 use Rattle.normaliser.specs.Kept.{normaliser_rules}
 use Rattle.normaliser.proofs.Memo.{kept_answers, kept_spent, answer_meets}

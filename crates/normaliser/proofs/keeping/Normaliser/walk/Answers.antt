@@ -1,4 +1,4 @@
-use Rattle.normaliser.specs.Kept.{normaliser_rules, IsReached, Knows}
+use Rattle.normaliser.specs.Kept.{normaliser_rules}
 use Rattle.normaliser.proofs.Memo.{knows_stays, is_reached}
 use Rattle.normaliser.proofs.keeping.Normaliser.walk.Goals as goal
 
