@@ -6,7 +6,7 @@ use Rattle.zm_logic.specs.View.{binder_tree}
 use Rattle.zm_logic.specs.declared.rule.Binder.{Binder}
 use Rattle.rule_index.specs.Matching.{find, find_all, is_of, are_of}
 use Rattle.rule_index.specs.declared.part.Part.{Part}
-use Rattle.rule_index.specs.View.{part_tree, parts_tree, some_parts, kinded_parts}
+use Rattle.rule_index.specs.View.{part_tree, parts_tree, kinded_parts}
 
 abbrev pub binders_tree : List Binder → List tree.Binder
 binders_tree bs = map binder_tree bs

@@ -3,7 +3,7 @@ use Rattle.std.proofs.Common.{ℕ, ◌≡◌, ◌+◌, refl, sym, ◌∙◌, sub
 use Rattle.zm_logic.specs.Tree.{Opening, Side, Rule}
 use Rattle.rule_index.specs.Matching.{match_side, or_else, Fitting, as_first, as_later, first_match}
 use Rattle.rule_index.specs.Usable.{IsUsable, AreUsable}
-use Rattle.rule_index.specs.Fits.{IsMatch, FitsNot, FirstFits, NoneFits}
+use Rattle.rule_index.specs.Fits.{FitsNot, FirstFits, NoneFits}
 use Rattle.rule_index.specs.declared.index.Match.{Match}
 use Rattle.rule_index.specs.View.{parts_tree, some_fitting, IsFirstFit}
 use Rattle.rule_index.proofs.Matched.{match_is_sound, match_is_complete}

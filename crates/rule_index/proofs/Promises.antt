@@ -1,5 +1,5 @@
 -- The laws of matching.
-use Rattle.std.proofs.Common.{ℕ, ◌≡◌, sym, ◌∙◌, List, [], ◌∷◌}
+use Rattle.std.proofs.Common.{sym, ◌∙◌, List, [], ◌∷◌}
 use Rattle.std.specs.List.{Contains}
 use Rattle.zm_logic.specs.Tree.{Rule, Symbol}
 use Rattle.zm_logic.proofs.Sames.{Contains-here, Contains-there}

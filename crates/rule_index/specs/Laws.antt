@@ -1,5 +1,5 @@
 -- What matching promises. Each statement is the contract of a function of the module laws.
-use Rattle.std.specs.Prelude.{ℕ, ◌≡◌, ◌↔◌, Some, None, List}
+use Rattle.std.specs.Prelude.{◌≡◌, ◌↔◌, Some, None, List}
 use Rattle.zm_logic.specs.Tree.{Binder, Opening, Side, Rule, Problem}
 use Rattle.zm_logic.specs.Opening.{side_instance}
 use Rattle.zm_logic.specs.Problem.{IsTypedProblem}

@@ -1,4 +1,4 @@
-use Rattle.std.proofs.Common.{◌≡◌, ◌+◌, drop}
+use Rattle.std.proofs.Common.{◌≡◌, drop}
 use Rattle.zm_logic.specs.View.{terms_tree}
 use Rattle.rule_index.specs.Matching as matching
 use Rattle.rule_index.proofs.finding.+find_in_term.Given as goal

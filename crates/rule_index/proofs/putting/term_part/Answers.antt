@@ -1,8 +1,7 @@
-use Rattle.std.proofs.Common.{◌≡◌, IfOk, ap, sym, ◌∙◌, subst, arith, Ok, Err}
+use Rattle.std.proofs.Common.{◌≡◌, IfOk, ap, sym, ◌∙◌, subst, arith}
 use Rattle.zm_logic.specs.Tree as tree
 use Rattle.zm_logic.specs.View.{term_tree}
-use Rattle.rule_index.specs.Instance.{lift_term, term_part}
-use Rattle.rule_index.specs.View.{parts_tree}
+use Rattle.rule_index.specs.Instance.{lift_term}
 use Rattle.rule_index.proofs.PartLists.{term_bound, term_part_past, part_is_term, part_is_no_term}
 use Rattle.rule_index.proofs.putting.term_part.Goals as goal
 

@@ -1,8 +1,7 @@
-use Rattle.std.proofs.Common.{◌≡◌, IfOk, ap, sym, ◌∙◌, subst, arith, Ok, Err}
+use Rattle.std.proofs.Common.{◌≡◌, IfOk, ap, sym, ◌∙◌, subst, arith}
 use Rattle.zm_logic.specs.Tree as tree
 use Rattle.zm_logic.specs.View.{type_tree}
-use Rattle.rule_index.specs.Instance.{lift_type, type_part}
-use Rattle.rule_index.specs.View.{parts_tree}
+use Rattle.rule_index.specs.Instance.{lift_type}
 use Rattle.rule_index.proofs.PartLists.{type_bound, type_part_past, part_is_type, part_is_no_type}
 use Rattle.rule_index.proofs.putting.type_part.Goals as goal
 
