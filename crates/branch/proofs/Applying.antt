@@ -1,5 +1,5 @@
 -- The Step that takes a listed offer of the current leaf: the tableau is kept, and grown by it.
-use Rattle.std.proofs.Common.{ℕ, zero, suc, ◌≡◌, ◌<◌, false, refl, ap, sym, subst, ◌∙◌, arith, List, [], ◌∷◌, ◌++◌, Option, None, Some, length, map, slice_get}
+use Rattle.std.proofs.Common.{ℕ, zero, suc, ◌≡◌, ◌<◌, true, false, refl, ap, sym, subst, ◌∙◌, arith, List, [], ◌∷◌, ◌++◌, Option, None, Some, length, map, slice_get}
 use Rattle.std.specs.Option.{option_map}
 use Rattle.std.proofs.lemmas.List.{length-map}
 use Rattle.std.proofs.lemmas.List.Elements.{All-contains}
@@ -12,23 +12,25 @@ use Rattle.branch.specs.declared.node.Node as code
 use Rattle.branch.specs.declared.tableau.Current.{Current}
 use Rattle.branch.specs.declared.tableau.Offered.{Offered}
 use Rattle.branch.specs.Branch.{closing, extend}
-use Rattle.branch.specs.Ids.{Node, node_ids, tree_of}
+use Rattle.branch.specs.declared.levels.Level.{Level}
+use Rattle.branch.specs.Ids.{Node, children_of, node_ids, tree_of, trees_of}
 use Rattle.branch.specs.Listed.{listed_of, IsListed, EachListed}
 use Rattle.branch.specs.Offers.{Offer, AreOffers}
 use Rattle.branch.specs.Path.{put}
 use Rattle.branch.specs.Replaced.{replaced}
 use Rattle.branch.specs.State.{State, setting, root, table, tree, branch_at, leaf_at, HasOffers, IsCurrent, HasCurrent, IsKept}
 use Rattle.branch.specs.Stepped.{AtLeaf, HasOffer, IsUnclosed, IsApplied}
-use Rattle.branch.specs.Stepping.{HasListed, IsListedAt, IsListing, IsLeaf, step_ids}
+use Rattle.branch.specs.Stepping.{HasListed, IsListedAt, IsListing, IsLeaf, open_leaves, step_ids}
 use Rattle.branch.specs.Tableau as tableau
 use Rattle.branch.specs.Tableau.{enter, count, picks, height}
 use Rattle.branch.proofs.CurrentLeaf.{leaf_filled, leaf_noted, leaf_offers}
 use Rattle.branch.proofs.Lawful.{leaves_may_be_replaced, replaced_leaves_are_current}
 use Rattle.branch.proofs.Lists.{get-contains}
+use Rattle.branch.proofs.Paths.{put_replaced}
 use Rattle.branch.proofs.OpenSteps.{first_open, step_tree, step_has, step_picks, step_count, step_height}
 use Rattle.branch.proofs.Replacing.{step_lawful}
 use Rattle.branch.proofs.SeenOffers.{children_length}
-use Rattle.branch.proofs.States.{moved, Fits, moved_tree, leaf_of, the_step, step_kept}
+use Rattle.branch.proofs.States.{moved, Fits, leaf_of, first_level, the_step, step_kept}
 
 -- the offer of a number, over ids
 each_get : (s : Tables) (ls : List Listed) (i : ℕ) (l : Listed) → EachListed s ls → slice_get ls i ≡ Some l → IsListed s l
@@ -62,6 +64,13 @@ offer_listed t k c h pick a o e =
     let i = leaf_offers t k.begun k.tree c h y.0 x.0 y.1 x.1 in
     let n : length y.0 ≡ length o.listed = ap length i ∙ ap length (sym x.2.offers) ∙ length-map o.listed (listed_of t.store) in
     record { offered = o; is_offered = e; within = (let q = y.2 in omega (arith, q, n)) }
+
+-- a Step with a child has an Open leaf
+step_unfinished : (s : Tables) (rs ns : List (List FormId)) → 0 < length ns → length ns ≡ length rs → tableau.are_finished (trees_of s (children_of (open_leaves rs ns))) ≡ false
+step_unfinished s [] [] h e = absurd (omega (arith, h))
+step_unfinished s [] (n ∷ ns) h e = absurd (omega (arith, e))
+step_unfinished s (r ∷ rs) [] h e = absurd (omega (arith, h))
+step_unfinished s (r ∷ rs) (n ∷ ns) h e = refl
 
 module _ (t : State) (k : IsKept t) (c : Current) (h : IsCurrent t c) (pick : ℕ) (l : Listed) (at : IsListedAt c pick l) where
   offers : HasOffers t (leaf_at t c) (Some at.offered)
@@ -111,8 +120,9 @@ module _ (t : State) (k : IsKept t) (c : Current) (h : IsCurrent t c) (pick : �
         → (params : List FormId) → HasForms t.store params → forms_of t.store params ≡ enter (table t) (forms_of t.store f)
         → (run : List ℕ) → run ≡ t.run ++ pick ∷ []
         → (d : Current) → IsLeaf t.store (c.path ++ 0 ∷ []) (extend (branch_at t c.branch) (forms_of t.store f)) d
-        → IsKept (moved t y params run (Some d))
-    applied_kept y same few f first params has entered run noted d leaf =
+        → (ls : List Level) → ls ≡ t.levels ++ first_level (length c.branch.forms) ∷ []
+        → IsKept (moved t y params run (Some d) ls)
+    applied_kept y same few f first params has entered run noted d leaf ls levels =
         let o = first_open l.raw l.normal f taken_listed.paired first in
         let e : step_ids pick l ≡ the_step leaves_may_be_replaced replaced_leaves_are_current t c k h pick l.offer.kind l.act o.0 f o.1 =
         ap (Node.step pick l.offer.kind l.act) o.2 in
@@ -122,16 +132,17 @@ module _ (t : State) (k : IsKept t) (c : Current) (h : IsCurrent t c) (pick : �
         (same ∙ ap (λ z. put c.path z (node_ids t.node)) e) (subst (Fits t c) e fits)
         (ap (λ z. picks (tree_of t.store z)) (sym e) ∙ step_picks t.store pick l) (ap (λ z. count (tree_of t.store z)) (sym e) ∙ step_count t.store pick l)
         low n params has entered d.branch (record { has = leaf.has; forms = leaf.forms; has_closing = leaf.has_closing; closing = leaf.closes }) in
-        subst (λ z. IsKept (moved t y params z (Some d))) (sym noted)
-        (subst (λ z. IsKept (moved t y params (t.run ++ pick ∷ []) (Some z))) (leaf_is d (c.path ++ 0 ∷ []) leaf.path leaf.unlisted) one)
+        subst (λ z. IsKept (moved t y params run (Some d) z)) (sym levels)
+        (subst (λ z. IsKept (moved t y params z (Some d) (t.levels ++ first_level (length c.branch.forms) ∷ []))) (sym noted)
+        (subst (λ z. IsKept (moved t y params (t.run ++ pick ∷ []) (Some z) (t.levels ++ first_level (length c.branch.forms) ∷ []))) (leaf_is d (c.path ++ 0 ∷ []) leaf.path leaf.unlisted) one))
       where
         leaf_is : (d : Current) (p : List ℕ) → d.path ≡ p → d.offered ≡ None → leaf_of p d.branch ≡ d
         leaf_is d p e f = ap (λ x. record { path = x; branch = d.branch; offered = None }) (sym e) ∙ ap (λ x. record { path = d.path; branch = d.branch; offered = x }) (sym f)
 
     -- and grown
-    pub applied_grown : (y : code.Node) → node_ids y ≡ put c.path (step_ids pick l) (node_ids t.node) → (params : List FormId) (run : List ℕ) (d : Option Current)
-        → IsApplied t pick (moved t y params run d)
-    applied_grown y same params run d = record {
+    pub applied_grown : (y : code.Node) → node_ids y ≡ put c.path (step_ids pick l) (node_ids t.node) → (params : List FormId) (run : List ℕ) (d : Option Current) (ls : List Level)
+        → IsApplied t pick (moved t y params run d ls)
+    applied_grown y same params run d ls = record {
       of = record { store = extends_itself t.store; symbols = refl; rewrites = refl; roots = refl };
       leaf = leaf_at t c;
       is_current = h.leaf;
@@ -139,8 +150,9 @@ module _ (t : State) (k : IsKept t) (c : Current) (h : IsCurrent t c) (pick : �
       are_offers = offers.1;
       offer = listed_of t.store l;
       taken = taken_offer;
-      grown = moved_tree leaves_may_be_replaced t c (step_ids pick l) y same k.begun k.tree h fits
-          ∙ ap (λ z. replaced false (root t) z (tree t)) (step_tree t.store pick l);
+      grown = ap (tree_of t.store) same
+          ∙ put_replaced t.store c.path (node_ids t.node) (step_ids pick l) (root t) h.leads (step_unfinished t.store l.raw l.normal taken_filled taken_listed.paired)
+          ∙ ap (λ z. replaced true (root t) z (tree t)) (step_tree t.store pick l);
     }
 
 -- What a method knows, whose tableau is t by its parts and v as a whole.
@@ -164,14 +176,14 @@ module _ (t v : State) (e : t ≡ v) (k : IsKept t) (c : Current) (p : t.current
       → (params : List FormId) → HasForms t.store params → forms_of t.store params ≡ enter (table t) (forms_of t.store f)
       → (run : List ℕ) → run ≡ t.run ++ pick ∷ []
       → (d : Current) → IsLeaf t.store (c.path ++ 0 ∷ []) (extend (branch_at t c.branch) (forms_of t.store f)) d
-      → IsKept (moved t y params run (Some d))
-  take_kept l at u short few y same f first params has entered run picked d leaf =
+      → (ls : List Level) → ls ≡ t.levels ++ first_level (length c.branch.forms) ∷ [] → IsKept (moved t y params run (Some d) ls)
+  take_kept l at u short few y same f first params has entered run picked d leaf ls levels =
       applied_kept t k c noted pick l at (subst IsUnclosed (sym e) u) (subst (λ z. AtLeaf z (λ leaf. leaf.above < 512)) (sym e) short) y same
-      (subst (λ z. count (tree z) < 1000000) (sym e) few) f first params has entered run picked d leaf
+      (subst (λ z. count (tree z) < 1000000) (sym e) few) f first params has entered run picked d leaf ls levels
 
   pub take_applied : (l : Listed) → IsListedAt c pick l → IsUnclosed v → AtLeaf v (λ leaf. leaf.above < 512)
-      → (y : code.Node) → node_ids y ≡ put c.path (step_ids pick l) (node_ids t.node) → (params : List FormId) (run : List ℕ) (d : Option Current)
-      → IsApplied v pick (moved t y params run d)
-  take_applied l at u short y same params run d =
-      subst (λ z. IsApplied z pick (moved t y params run d)) e
-      (applied_grown t k c noted pick l at (subst IsUnclosed (sym e) u) (subst (λ z. AtLeaf z (λ leaf. leaf.above < 512)) (sym e) short) y same params run d)
+      → (y : code.Node) → node_ids y ≡ put c.path (step_ids pick l) (node_ids t.node) → (params : List FormId) (run : List ℕ) (d : Option Current) (ls : List Level)
+      → IsApplied v pick (moved t y params run d ls)
+  take_applied l at u short y same params run d ls =
+      subst (λ z. IsApplied z pick (moved t y params run d ls)) e
+      (applied_grown t k c noted pick l at (subst IsUnclosed (sym e) u) (subst (λ z. AtLeaf z (λ leaf. leaf.above < 512)) (sym e) short) y same params run d ls)

@@ -1,5 +1,5 @@
 -- A tableau that is begun: the ids of its formulas, and its one Open leaf.
-use Rattle.std.proofs.Common.{◌≡◌, ℕ, zero, suc, ◌+◌, ◌<◌, ◌≤◌, refl, ap, sym, subst, ◌∙◌, arith, false, List, [], ◌∷◌, ◌++◌, length, get_or, take, All, map}
+use Rattle.std.proofs.Common.{true, ◌≡◌, ℕ, zero, suc, ◌+◌, ◌<◌, ◌≤◌, refl, ap, sym, subst, ◌∙◌, arith, false, List, [], ◌∷◌, ◌++◌, length, get_or, take, All, map}
 use Rattle.std.proofs.lemmas.List.{map-append, take_more}
 use Rattle.std.proofs.lemmas.List.Elements.{All-nil, All-cons, All-head, All-tail}
 use Rattle.zm_logic.specs.Tree.{Form}
@@ -112,7 +112,7 @@ pub may_begin : (p : Problem) (symbols : List Symbol) (rewrites : ℕ) (store : 
     → AreEqualityFree (refuted (problem_tree p)) → symbols ≡ p.symbols → AreRoots store (refuted_forms p.premises p.conjecture) roots
     → MayBegin symbols rewrites store roots
 may_begin p symbols rewrites store roots typed free e are =
-    let s : Setting = record { symbols = map symbol_tree symbols; rules = []; rewrites = rewrites; prunes = false } in
+    let s : Setting = record { symbols = map symbol_tree symbols; rules = []; rewrites = rewrites; prunes = true } in
     let forms = sym (are.forms ∙ sym (refuted_is p)) in
     record {
       has_given = are.has;

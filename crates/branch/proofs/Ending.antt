@@ -1,5 +1,5 @@
 -- The current leaf is closed: the tableau is kept, and grown by it.
-use Rattle.std.proofs.Common.{ℕ, ◌≡◌, refl, ap, sym, subst, ◌∙◌, arith, List, [], Option, None, Some, IfSome}
+use Rattle.std.proofs.Common.{ℕ, zero, suc, ◌<◌, ◌≡◌, refl, ap, sym, subst, ◌∙◌, arith, List, [], Option, None, Some, IfSome}
 use Rattle.std.specs.Option.{option_map}
 use Rattle.term_store.specs.Trees.{Tables}
 use Rattle.term_store.specs.declared.ids.FormId.{FormId}
@@ -10,14 +10,16 @@ use Rattle.branch.specs.declared.node.Node as code
 use Rattle.branch.specs.declared.tableau.Current.{Current}
 use Rattle.branch.specs.Branch.{closing}
 use Rattle.branch.specs.Ids.{Node, node_ids, closing_of, HasClosing}
-use Rattle.branch.specs.Path.{put, next, along, brought, extend_all, LeadsBelow}
+use Rattle.branch.specs.Path.{along, brought, extend_all, LeadsBelow}
+use Rattle.branch.specs.declared.levels.Level.{Level}
+use Rattle.branch.specs.Climbing.{pruned, behind, renoted, Climbs, IsClimb}
 use Rattle.branch.specs.State.{State, setting, normal_ids, root, table, branch_at, leaf_at, IsCurrent, HasCurrent, IsKept}
 use Rattle.branch.specs.Stepped.{IsClosedAt}
-use Rattle.branch.specs.Stepping.{IsLeaf, OfCurrent, ClosesCurrent, GoesTo}
+use Rattle.branch.specs.Stepping.{IsLeaf, OfCurrent, ClosesCurrent, LeadsUp, EndsAll}
 use Rattle.branch.specs.Tableau.{enter}
-use Rattle.branch.proofs.Behind.{next_leads}
+use Rattle.branch.proofs.Behind.{behind_leads}
 use Rattle.branch.proofs.Lawful.{leaves_may_be_replaced}
-use Rattle.branch.proofs.States.{moved, Fits, moved_tree, leaf_of, end_kept, next_kept}
+use Rattle.branch.proofs.States.{moved, Fits, leaf_of, closed_tree, end_kept, behind_kept}
 
 has_pair : (s : Tables) (o : Option ClosingPair) (pair : ClosingPair) → o ≡ Some pair → IfSome o (HasClosing s) → HasClosing s pair
 has_pair s o pair e h = subst (λ p. IfSome p (HasClosing s)) e h
@@ -35,30 +37,32 @@ module _ (t : State) (k : IsKept t) (c : Current) (h : IsCurrent t c) where
       high = let a = h.short in omega (arith, a);
     }
 
-    pub ended_grown : (y : code.Node) → node_ids y ≡ put c.path (Node.closed pair) (node_ids t.node) → (params : List FormId) (run : List ℕ) (d : Option Current)
-        → IsClosedAt t (moved t y params run d)
-    ended_grown y same params run d = record {
+    pub ended_grown : (kept : ℕ) → Climbs t.store (root t) kept c.path (Node.closed pair) (node_ids t.node)
+        → (y : code.Node) → node_ids y ≡ pruned kept c.path (Node.closed pair) (node_ids t.node) → (params : List FormId) (run : List ℕ) (d : Option Current) (ls : List Level)
+        → IsClosedAt t (moved t y params run d ls)
+    ended_grown kept climbs y same params run d ls = record {
       of = record { store = extends_itself t.store; symbols = refl; rewrites = refl; roots = refl };
       leaf = leaf_at t c;
       is_current = h.leaf;
       pair = closing_of t.store pair;
       closes = closes;
-      grown = moved_tree leaves_may_be_replaced t c (Node.closed pair) y same k.begun k.tree h fits;
+      grown = closed_tree leaves_may_be_replaced t c k h pair fits kept climbs y same;
     }
 
     -- none is Open behind it
-    pub ended_kept : (y : code.Node) → node_ids y ≡ put c.path (Node.closed pair) (node_ids t.node) → next c.path (node_ids t.node) ≡ None
-        → IsKept (moved t y t.params t.run None)
-    ended_kept y same e = end_kept leaves_may_be_replaced t c k h pair fits y same e
+    pub ended_kept : Climbs t.store (root t) 0 c.path (Node.closed pair) (node_ids t.node) → (y : code.Node)
+        → node_ids y ≡ pruned 0 c.path (Node.closed pair) (node_ids t.node) → (ls : List Level) → IsKept (moved t y t.params t.run None ls)
+    ended_kept climbs y same ls = end_kept leaves_may_be_replaced t c k h pair fits 0 climbs y same refl ls
 
-    -- the next child is current then
-    pub gone_kept : (y : code.Node) → node_ids y ≡ put c.path (Node.closed pair) (node_ids t.node) → (q : List ℕ) → next c.path (node_ids t.node) ≡ Some q
-        → (params : List FormId) → HasForms t.store params → forms_of t.store params ≡ enter (table t) (forms_of t.store (brought q (node_ids t.node)))
-        → (d : Current) → IsLeaf t.store q (extend_all (root t) (lists_of t.store (along q (node_ids t.node)))) d
-        → IsKept (moved t y params t.run (Some d))
-    gone_kept y same q e params has entered d leaf =
-        subst (λ z. IsKept (moved t y params t.run (Some z))) (leaf_is d q leaf.path leaf.unlisted)
-        (next_kept leaves_may_be_replaced t c k h pair fits y same q e params has entered d.branch
+    -- the child behind is current then
+    pub gone_kept : (d : ℕ) (used : List FormId) → IsClimb t.store (root t) c.path (Node.closed pair) (node_ids t.node) t.levels (suc d) used → (y : code.Node)
+        → node_ids y ≡ pruned (suc d) c.path (Node.closed pair) (node_ids t.node)
+        → (params : List FormId) → HasForms t.store params → forms_of t.store params ≡ enter (table t) (forms_of t.store (brought (behind (suc d) c.path) (node_ids t.node)))
+        → (e : Current) → IsLeaf t.store (behind (suc d) c.path) (extend_all (root t) (lists_of t.store (along (behind (suc d) c.path) (node_ids t.node)))) e
+        → IsKept (moved t y params t.run (Some e) (renoted (suc d) used t.levels))
+    gone_kept d used climb y same params has entered e leaf =
+        subst (λ z. IsKept (moved t y params t.run (Some z) (renoted (suc d) used t.levels))) (leaf_is e (behind (suc d) c.path) leaf.path leaf.unlisted)
+        (behind_kept leaves_may_be_replaced t c k h pair fits d used climb y same params has entered e.branch
         (record { has = leaf.has; forms = leaf.forms; has_closing = leaf.has_closing; closing = leaf.closes }))
       where
         leaf_is : (d : Current) (p : List ℕ) → d.path ≡ p → d.offered ≡ None → leaf_of p d.branch ≡ d
@@ -73,32 +77,41 @@ holds_of t c p P o = subst P (current_is o.current c (sym o.noted ∙ p)) o.hold
 
 -- What a method knows, whose tableau is t by its parts and v as a whole.
 module _ (t v : State) (e : t ≡ v) (k : IsKept t) (c : Current) (p : t.current ≡ Some c) where
-  noted : IsCurrent t c
+  pub noted : IsCurrent t c
   noted = subst (HasCurrent t) p k.current
 
   module _ (pair : ClosingPair) (closes : ClosesCurrent v pair) where
     is_pair : c.branch.closing ≡ Some pair
     is_pair = holds_of t c p (λ d. d.branch.closing ≡ Some pair) (subst (λ z. ClosesCurrent z pair) (sym e) closes)
 
-    goes : (to : Option (List ℕ)) → GoesTo v to → next c.path (node_ids t.node) ≡ to
-    goes to g = holds_of t c p (λ d. next d.path (node_ids t.node) ≡ to) (subst (λ z. GoesTo z to) (sym e) g)
+    pub end_closed : (kept : ℕ) → Climbs t.store (root t) kept c.path (Node.closed pair) (node_ids t.node)
+        → (y : code.Node) → node_ids y ≡ pruned kept c.path (Node.closed pair) (node_ids t.node) → (params : List FormId) (run : List ℕ) (d : Option Current) (ls : List Level)
+        → IsClosedAt v (moved t y params run d ls)
+    end_closed kept climbs y same params run d ls =
+        subst (λ z. IsClosedAt z (moved t y params run d ls)) e (ended_grown t k c noted pair is_pair kept climbs y same params run d ls)
 
-    pub end_closed : (y : code.Node) → node_ids y ≡ put c.path (Node.closed pair) (node_ids t.node) → (params : List FormId) (run : List ℕ) (d : Option Current)
-        → IsClosedAt v (moved t y params run d)
-    end_closed y same params run d = subst (λ z. IsClosedAt z (moved t y params run d)) e (ended_grown t k c noted pair is_pair y same params run d)
+    pub ends : EndsAll v pair → Climbs t.store (root t) 0 c.path (Node.closed pair) (node_ids t.node)
+    ends g = holds_of t c p (λ d. Climbs t.store (root t) 0 d.path (Node.closed pair) (node_ids t.node)) (subst (λ z. EndsAll z pair) (sym e) g)
 
-    pub none_kept : GoesTo v None → (y : code.Node) → node_ids y ≡ put c.path (Node.closed pair) (node_ids t.node) → IsKept (moved t y t.params t.run None)
-    none_kept g y same = ended_kept t k c noted pair is_pair y same (goes None g)
+    pub none_kept : EndsAll v pair → (y : code.Node) → node_ids y ≡ pruned 0 c.path (Node.closed pair) (node_ids t.node) → (ls : List Level)
+        → IsKept (moved t y t.params t.run None ls)
+    none_kept g y same ls = ended_kept t k c noted pair is_pair (ends g) y same ls
 
-    pub behind_kept : (q : List ℕ) → GoesTo v (Some q) → (y : code.Node) → node_ids y ≡ put c.path (Node.closed pair) (node_ids t.node)
-        → (params : List FormId) → HasForms t.store params → forms_of t.store params ≡ enter (table t) (forms_of t.store (brought q (node_ids t.node)))
-        → (d : Current) → IsLeaf t.store q (extend_all (root t) (lists_of t.store (along q (node_ids t.node)))) d
-        → IsKept (moved t y params t.run (Some d))
-    behind_kept q g y same params has entered d leaf = gone_kept t k c noted pair is_pair y same q (goes (Some q) g) params has entered d leaf
+    pub leads_up : (kept : ℕ) (used : List FormId) → LeadsUp v pair kept used → IsClimb t.store (root t) c.path (Node.closed pair) (node_ids t.node) t.levels kept used
+    leads_up kept used g =
+        holds_of t c p (λ d. IsClimb t.store (root t) d.path (Node.closed pair) (node_ids t.node) t.levels kept used) (subst (λ z. LeadsUp z pair kept used) (sym e) g)
 
--- the next child stands below a branch that isn't closed
-pub leads_below : (t u : State) → t ≡ u → IsKept t → (q : List ℕ) → GoesTo u (Some q) → LeadsBelow t.store (normal_ids t) q (node_ids t.node)
-leads_below t u e k q g =
-    let a : GoesTo t (Some q) = subst (λ v. GoesTo v (Some q)) (sym e) g in
-    let h = next_leads t.store (setting t) a.current.path (node_ids t.node) q (enter [] (root t)) (root t) k.tree.tableau.lawful a.holds in
-    record { last = h.0; unclosed = h.1 }
+    pub behind_kept_by : (kept : ℕ) (used : List FormId) → 0 < kept → LeadsUp v pair kept used → (y : code.Node) → node_ids y ≡ pruned kept c.path (Node.closed pair) (node_ids t.node)
+        → (params : List FormId) → HasForms t.store params → forms_of t.store params ≡ enter (table t) (forms_of t.store (brought (behind kept c.path) (node_ids t.node)))
+        → (d : Current) → IsLeaf t.store (behind kept c.path) (extend_all (root t) (lists_of t.store (along (behind kept c.path) (node_ids t.node)))) d
+        → IsKept (moved t y params t.run (Some d) (renoted kept used t.levels))
+    behind_kept_by zero used l g y same params has entered d leaf = absurd (omega arith)
+    behind_kept_by (suc m) used l g y same params has entered d leaf =
+        gone_kept t k c noted pair is_pair m used (leads_up (suc m) used g) y same params has entered d leaf
+
+    -- the child behind stands below a branch that isn't closed
+    pub leads_below : (kept : ℕ) (used : List FormId) → 0 < kept → LeadsUp v pair kept used → LeadsBelow t.store (normal_ids t) (behind kept c.path) (node_ids t.node)
+    leads_below zero used l g = absurd (omega arith)
+    leads_below (suc m) used l g =
+        let h = behind_leads t.store (setting t) m c.path (node_ids t.node) (Node.closed pair) (enter [] (root t)) (root t) k.tree.tableau.lawful (leads_up (suc m) used g).climbs in
+        record { last = h.0; unclosed = h.1 }

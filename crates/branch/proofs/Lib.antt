@@ -54,8 +54,11 @@ pub mod Ready
 pub mod Parted
 pub mod SharedIds
 pub mod Held
+pub mod Apart
+pub mod Finishing
 pub mod Closes
 pub mod Entered
+pub mod Noticed
 pub mod States
 pub mod Begun
 pub mod FreeLeaves

@@ -1,8 +1,8 @@
 -- Paths to the first Open leaf: what the trees of ids have there, and where the next one is.
-use Rattle.std.proofs.Common.{◌≡◌, ℕ, zero, suc, ◌+◌, Bool, true, false, ◌&&◌, ◌↔◌, cond, refl, ap, sym, ◌∙◌, List, [], ◌∷◌, ◌++◌, length, Some, arith}
+use Rattle.std.proofs.Common.{◌≡◌, ℕ, zero, suc, ◌+◌, Bool, true, false, not, ◌&&◌, ◌↔◌, cond, refl, ap, sym, ◌∙◌, List, [], ◌∷◌, ◌++◌, length, Some, arith}
 use Rattle.std.specs.Option.{option_or}
 use Rattle.std.proofs.lemmas.Option.{same_Some}
-use Rattle.std.proofs.lemmas.Bool.{and_parts, and_from, and_right}
+use Rattle.std.proofs.lemmas.Bool.{and_parts, and_from}
 use Rattle.zm_logic.specs.Tree.{Form}
 use Rattle.term_store.specs.declared.ids.FormId.{FormId}
 use Rattle.term_store.specs.Trees.{Tables}
@@ -12,7 +12,7 @@ use Rattle.choosers.specs.declared.offer.Kind.{Kind}
 use Rattle.branch.specs.Branch.{extend}
 use Rattle.branch.specs.Setting.{Setting}
 use Rattle.branch.specs.Tableau as tableau
-use Rattle.branch.specs.Tableau.{is_finished, are_finished, is_skipped, is_idle, skips, uses, enter, enter_child, after, Leaf, current, current_of, IsLawful, AreLawful}
+use Rattle.branch.specs.Tableau.{is_finished, are_finished, is_skipped, is_apart, fresh, skips, uses, enter, enter_child, after, Leaf, current, current_of, IsLawful, AreLawful}
 use Rattle.branch.specs.Replaced.{replaced, replaced_in, skipping}
 use Rattle.branch.specs.Ids.{Node, Children, kind_of, tree_of, trees_of}
 use Rattle.branch.specs.Path.{IsFinished, AreFinished, IsFirst, IsFirstOf, put, put_in, along, along_in, extend_all}
@@ -117,33 +117,64 @@ module _ (s : Tables) where
     first_unfinished_in (suc i) is (Children.more r f n ns) h =
         ap (λ v. v && are_finished (trees_of s ns)) (finished_tree n h.0) ∙ first_unfinished_in i is ns h.1
 
-  -- the node stands in the place of the first Open leaf, and nothing is skipped
+  -- a node with an Open leaf stands in the place of the first Open leaf, and nothing is skipped
   mutual
-    pub put_replaced : (p : List ℕ) (n x : Node) (b : List Form) → IsFirst p n → tree_of s (put p x n) ≡ replaced false b (tree_of s x) (tree_of s n)
-    put_replaced [] n x b h = sym (ap (λ m. replaced false b (tree_of s x) (tree_of s m)) h)
-    put_replaced (i ∷ is) (Node.step k t a ns) x b h = ap (λ ms. tableau.Node.step k (kind_of t) (act_of s a) ms) (put_in_replaced i is ns x b h)
-    put_replaced (i ∷ is) (Node.closed c) x b h = absurd h
-    put_replaced (i ∷ is) Node.opened x b h = absurd h
-    put_replaced (i ∷ is) Node.skipped x b h = absurd h
+    pub put_unfinished : (p : List ℕ) (n x : Node) → IsFirst p n → is_finished (tree_of s x) ≡ false → is_finished (tree_of s (put p x n)) ≡ false
+    put_unfinished [] n x h e = e
+    put_unfinished (i ∷ is) (Node.step k t a ns) x h e = put_in_unfinished i is ns x h e
+    put_unfinished (i ∷ is) (Node.closed c) x h e = absurd h
+    put_unfinished (i ∷ is) Node.opened x h e = absurd h
+    put_unfinished (i ∷ is) Node.skipped x h e = absurd h
 
-    put_in_replaced : (i : ℕ) (is : List ℕ) (ns : Children) (x : Node) (b : List Form) → IsFirstOf i is ns
-        → trees_of s (put_in i is x ns) ≡ replaced_in false b (tree_of s x) (trees_of s ns)
-    put_in_replaced i is Children.none x b h = absurd h
-    put_in_replaced zero is (Children.more r f n ns) x b h =
-        let now = tableau.Children.more (forms_of s r) (forms_of s f) in
-        let y = replaced false (extend b (forms_of s f)) (tree_of s x) (tree_of s n) in
-        let on = now (tree_of s n) (replaced_in false b (tree_of s x) (trees_of s ns)) in
-        let off : Bool → tableau.Children = λ v. now y (cond v (skipping (trees_of s ns)) (trees_of s ns)) in
-        ap (λ m. now m (trees_of s ns)) (put_replaced is n x (extend b (forms_of s f)) h)
-        ∙ sym (ap off (and_right (is_idle b (forms_of s f) y (uses (extend b (forms_of s f)) y)) false refl))
-        ∙ sym (ap (λ v. cond v on (off (skips false b (forms_of s f) y))) (first_unfinished is n h))
-    put_in_replaced (suc i) is (Children.more r f n ns) x b h =
-        let now = tableau.Children.more (forms_of s r) (forms_of s f) in
-        let y = replaced false (extend b (forms_of s f)) (tree_of s x) (tree_of s n) in
-        let on = now (tree_of s n) (replaced_in false b (tree_of s x) (trees_of s ns)) in
-        let off : Bool → tableau.Children = λ v. now y (cond v (skipping (trees_of s ns)) (trees_of s ns)) in
-        ap (now (tree_of s n)) (put_in_replaced i is ns x b h.1)
-        ∙ sym (ap (λ v. cond v on (off (skips false b (forms_of s f) y))) (finished_tree n h.0))
+    put_in_unfinished : (i : ℕ) (is : List ℕ) (ns : Children) (x : Node) → IsFirstOf i is ns → is_finished (tree_of s x) ≡ false
+        → are_finished (trees_of s (put_in i is x ns)) ≡ false
+    put_in_unfinished i is Children.none x h e = absurd h
+    put_in_unfinished zero is (Children.more r f n ns) x h e = ap (λ v. v && are_finished (trees_of s ns)) (put_unfinished is n x h e)
+    put_in_unfinished (suc i) is (Children.more r f n ns) x h e =
+        ap (λ v. v && are_finished (trees_of s (put_in i is x ns))) (finished_tree n h.0) ∙ put_in_unfinished i is ns x h.1 e
+
+  -- a child with an Open leaf skips nothing
+  pub unfinished_skips : (prunes : Bool) (b f : List Form) (y : tableau.Node) → is_finished y ≡ false → skips prunes b f y ≡ false
+  unfinished_skips prunes b f y e = ap (λ v. (v && (not (is_skipped y) && is_apart (fresh b f) (uses (extend b f) y))) && prunes) e
+
+  -- the children where the first Open leaf of one is replaced, which skips the later ones or not
+  pub replaced_here : (r f b : List Form) (x n : tableau.Node) (ns : tableau.Children) (v : Bool) → is_finished n ≡ false
+      → skips true b f (replaced true (extend b f) x n) ≡ v
+      → replaced_in true b x (tableau.Children.more r f n ns) ≡ tableau.Children.more r f (replaced true (extend b f) x n) (cond v (skipping ns) ns)
+  replaced_here r f b x n ns v e k =
+      let y = replaced true (extend b f) x n in
+      let on = tableau.Children.more r f n (replaced_in true b x ns) in
+      let off : Bool → tableau.Children = λ w. tableau.Children.more r f y (cond w (skipping ns) ns) in
+      ap (λ w. cond w on (off (skips true b f y))) e ∙ ap off k
+
+  pub replaced_later : (r f b : List Form) (x n : tableau.Node) (ns : tableau.Children) → is_finished n ≡ true
+      → replaced_in true b x (tableau.Children.more r f n ns) ≡ tableau.Children.more r f n (replaced_in true b x ns)
+  replaced_later r f b x n ns e =
+      let y = replaced true (extend b f) x n in
+      ap (λ w. cond w (tableau.Children.more r f n (replaced_in true b x ns)) (tableau.Children.more r f y (cond (skips true b f y) (skipping ns) ns))) e
+
+  mutual
+    pub put_replaced : (p : List ℕ) (n x : Node) (b : List Form) → IsFirst p n → is_finished (tree_of s x) ≡ false
+        → tree_of s (put p x n) ≡ replaced true b (tree_of s x) (tree_of s n)
+    put_replaced [] n x b h e = sym (ap (λ m. replaced true b (tree_of s x) (tree_of s m)) h)
+    put_replaced (i ∷ is) (Node.step k t a ns) x b h e = ap (λ ms. tableau.Node.step k (kind_of t) (act_of s a) ms) (put_in_replaced i is ns x b h e)
+    put_replaced (i ∷ is) (Node.closed c) x b h e = absurd h
+    put_replaced (i ∷ is) Node.opened x b h e = absurd h
+    put_replaced (i ∷ is) Node.skipped x b h e = absurd h
+
+    put_in_replaced : (i : ℕ) (is : List ℕ) (ns : Children) (x : Node) (b : List Form) → IsFirstOf i is ns → is_finished (tree_of s x) ≡ false
+        → trees_of s (put_in i is x ns) ≡ replaced_in true b (tree_of s x) (trees_of s ns)
+    put_in_replaced i is Children.none x b h e = absurd h
+    put_in_replaced zero is (Children.more r f n ns) x b h e =
+        let g = forms_of s f in
+        let same = put_replaced is n x (extend b g) h e in
+        let left : is_finished (replaced true (extend b g) (tree_of s x) (tree_of s n)) ≡ false = ap is_finished (sym same) ∙ put_unfinished is n x h e in
+        ap (λ m. tableau.Children.more (forms_of s r) g m (trees_of s ns)) same
+        ∙ sym (replaced_here (forms_of s r) g b (tree_of s x) (tree_of s n) (trees_of s ns) false (first_unfinished is n h)
+        (unfinished_skips true b g (replaced true (extend b g) (tree_of s x) (tree_of s n)) left))
+    put_in_replaced (suc i) is (Children.more r f n ns) x b h e =
+        ap (tableau.Children.more (forms_of s r) (forms_of s f) (tree_of s n)) (put_in_replaced i is ns x b h.1 e)
+        ∙ sym (replaced_later (forms_of s r) (forms_of s f) b (tree_of s x) (tree_of s n) (trees_of s ns) (finished_tree n h.0))
 
   -- the table of numbers at the place to which a path leads
   abbrev mutual

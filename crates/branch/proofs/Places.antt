@@ -15,7 +15,8 @@ use Rattle.branch.specs.Branch.{extend}
 use Rattle.branch.specs.declared.node.Child.{Child as Code}
 use Rattle.branch.specs.declared.node.Node.TheFolds.{fold-roll-Child}
 use Rattle.branch.specs.Ids.{Node, Children, Child, children_of, node_layer, child_layer, node_ids, child_ids, HasNode, HasNodes}
-use Rattle.branch.specs.Path.{child_at, child_in, IsFirst, IsFirstOf, put, put_in, along, along_in, brought, brought_in, extend_all, next, next_in, IsAdded}
+use Rattle.branch.specs.Path.{child_at, child_in, IsFirst, IsFirstOf, put, put_in, along, along_in, brought, brought_in, extend_all}
+use Rattle.branch.specs.Climbing.{skipping, skipping_from, skipped, skipped_in}
 
 pub child_opens : (c : Code) → child_ids c ≡ record { raw = c.raw; normal = c.normal; node = node_ids c.node }
 child_opens c = fold-roll-Child Node Child node_layer child_layer (record { raw = c.raw; normal = c.normal; node = c.node })
@@ -51,23 +52,82 @@ pub first_step : (p : List ℕ) (i : ℕ) (is : List ℕ) (n : Node) (k : ℕ) (
     → IsFirst p n → IsFirstOf i is ns
 first_step p i is n k t a ns e f h = subst (λ m. IsFirst (i ∷ is) m) f (subst (λ q. IsFirst q n) e h)
 
--- a child with another node
-pub child_put : (i : ℕ) (is : List ℕ) (cs : List Code) (c d : Code) (x : Node) → c ≡ get_or cs i c
-    → d.raw ≡ c.raw → d.normal ≡ c.normal → node_ids d.node ≡ put is x (node_ids c.node)
-    → children_of (map child_ids (slice_set cs i d)) ≡ put_in i is x (children_of (map child_ids cs))
-child_put i is cs c d x e r f n = go i cs (sym (ap child_ids e) ∙ child_opens c)
+-- the children with another node at a place
+abbrev pub set_in : ℕ → Node → Children → Children
+set_in i m Children.none = Children.none
+set_in zero m (Children.more r f n ns) = Children.more r f m ns
+set_in (suc i) m (Children.more r f n ns) = Children.more r f n (set_in i m ns)
+
+pub child_set : (i : ℕ) (cs : List Code) (c d : Code) (m : Node) → c ≡ get_or cs i c → d.raw ≡ c.raw → d.normal ≡ c.normal → node_ids d.node ≡ m
+    → children_of (map child_ids (slice_set cs i d)) ≡ set_in i m (children_of (map child_ids cs))
+child_set i cs c d m e r f n = go i cs (sym (ap child_ids e) ∙ child_opens c)
   where
-    new : child_ids d ≡ record { raw = c.raw; normal = c.normal; node = put is x (node_ids c.node) }
+    new : child_ids d ≡ record { raw = c.raw; normal = c.normal; node = m }
     new = let o = child_opens d in cc
 
     go : (j : ℕ) (ds : List Code) → child_ids (get_or ds j c) ≡ record { raw = c.raw; normal = c.normal; node = node_ids c.node }
-        → children_of (map child_ids (slice_set ds j d)) ≡ put_in j is x (children_of (map child_ids ds))
+        → children_of (map child_ids (slice_set ds j d)) ≡ set_in j m (children_of (map child_ids ds))
     go j [] k = refl
     go zero (b ∷ ds) k =
-        let y : child_ids d ≡ record { raw = (child_ids b).raw; normal = (child_ids b).normal; node = put is x (child_ids b).node } =
-        new ∙ ap (λ (z : Child). record { raw = z.raw; normal = z.normal; node = put is x z.node }) (sym k) in
+        let y : child_ids d ≡ record { raw = (child_ids b).raw; normal = (child_ids b).normal; node = m } =
+        new ∙ ap (λ (z : Child). record { raw = z.raw; normal = z.normal; node = m }) (sym k) in
         ap (λ (z : Child). Children.more z.raw z.normal z.node (children_of (map child_ids ds))) y
     go (suc j) (b ∷ ds) k = ap (Children.more (child_ids b).raw (child_ids b).normal (child_ids b).node) (go j ds k)
+
+-- the node below it is put there, with the later children as they are, or Skipped
+node_of : (r f : List FormId) (n : Node) (m : Child) → Some (record { raw = r; normal = f; node = n }) ≡ Some m → m.node ≡ n
+node_of r f n m e = ap (λ (x : Child). x.node) (sym (same_Some (record { raw = r; normal = f; node = n }) m e))
+
+pub set_put : (d i : ℕ) (is : List ℕ) (ns : Children) (m : Child) (x : Node) → child_in i ns ≡ Some m
+    → set_in i (put is x (skipped d is m.node)) ns ≡ put_in i is x (skipped_in (suc d) i is ns)
+set_put d i is Children.none m x e = refl
+set_put d zero is (Children.more r f n ns) m x e = ap (λ y. Children.more r f (put is x (skipped d is y)) ns) (node_of r f n m e)
+set_put d (suc i) is (Children.more r f n ns) m x e = ap (Children.more r f n) (set_put d i is ns m x e)
+
+pub set_skips : (i : ℕ) (is : List ℕ) (ns : Children) (m : Child) (x : Node) → child_in i ns ≡ Some m
+    → skipping_from (suc i) (set_in i (put is x (skipped 0 is m.node)) ns) ≡ put_in i is x (skipped_in 0 i is ns)
+set_skips i is Children.none m x e = refl
+set_skips zero is (Children.more r f n ns) m x e = ap (λ y. Children.more r f (put is x (skipped 0 is y)) (skipping ns)) (node_of r f n m e)
+set_skips (suc i) is (Children.more r f n ns) m x e = ap (Children.more r f n) (set_skips i is ns m x e)
+
+-- the children from one place to another as Skipped leaves
+abbrev pub skipped_between : ℕ → ℕ → Children → Children
+skipped_between i zero ns = ns
+skipped_between i (suc j) Children.none = Children.none
+skipped_between zero (suc j) (Children.more r f n ns) = Children.more r f Node.skipped (skipped_between zero j ns)
+skipped_between (suc i) (suc j) (Children.more r f n ns) = Children.more r f n (skipped_between i j ns)
+
+pub between_none : (i : ℕ) (ns : Children) → skipped_between i i ns ≡ ns
+between_none zero ns = refl
+between_none (suc i) Children.none = refl
+between_none (suc i) (Children.more r f n ns) = ap (Children.more r f n) (between_none i ns)
+
+pub between_more : (i j : ℕ) (ns : Children) → i ≤ j → set_in j Node.skipped (skipped_between i j ns) ≡ skipped_between i (suc j) ns
+between_more zero zero Children.none h = refl
+between_more zero zero (Children.more r f n ns) h = refl
+between_more (suc i) zero ns h = absurd (omega arith)
+between_more zero (suc j) Children.none h = refl
+between_more zero (suc j) (Children.more r f n ns) h = ap (Children.more r f Node.skipped) (between_more zero j ns (omega arith))
+between_more (suc i) (suc j) Children.none h = refl
+between_more (suc i) (suc j) (Children.more r f n ns) h = ap (Children.more r f n) (between_more i j ns (omega (arith, h)))
+
+pub between_all : (i j : ℕ) (cs : List Code) → i ≤ j → length cs ≤ j
+    → skipped_between i j (children_of (map child_ids cs)) ≡ skipping_from i (children_of (map child_ids cs))
+between_all zero zero [] h k = refl
+between_all zero (suc j) [] h k = refl
+between_all (suc i) zero [] h k = refl
+between_all (suc i) (suc j) [] h k = refl
+between_all i zero (c ∷ cs) h k = absurd (omega arith)
+between_all zero (suc j) (c ∷ cs) h k = ap (Children.more (child_ids c).raw (child_ids c).normal Node.skipped) (between_all zero j cs (omega arith) (omega (arith, k)))
+between_all (suc i) (suc j) (c ∷ cs) h k = ap (Children.more (child_ids c).raw (child_ids c).normal (child_ids c).node) (between_all i j cs (omega (arith, h)) (omega (arith, k)))
+
+pub child_there : (i : ℕ) (cs : List Code) (c : Code) → c ≡ get_or cs i c → i < length cs → child_in i (children_of (map child_ids cs)) ≡ Some (child_ids c)
+child_there i cs c e h = go i cs h ∙ ap (λ d. Some (child_ids d)) (sym e)
+  where
+    go : (j : ℕ) (ds : List Code) → j < length ds → child_in j (children_of (map child_ids ds)) ≡ Some (child_ids (get_or ds j c))
+    go j [] k = absurd (omega arith)
+    go zero (d ∷ ds) k = refl
+    go (suc j) (d ∷ ds) k = go j ds (omega (arith, k))
 
 -- what stands along a path that leads through a child
 mutual
@@ -147,77 +207,17 @@ brought_none p i is (Node.closed q) e f = ap (λ z. brought z (Node.closed q)) e
 brought_none p i is Node.opened e f = ap (λ z. brought z Node.opened) e
 brought_none p i is Node.skipped e f = ap (λ z. brought z Node.skipped) e
 
--- The next path, where the first place leads to a child of a Step.
-next_inside : (i : ℕ) (is : List ℕ) (cs : List Code) (d : Code) → i < length cs → next_in i is (children_of (map child_ids cs)) ≡ next is (child_ids (get_or cs i d)).node
-next_inside i is [] d h = absurd (omega arith)
-next_inside zero is (c ∷ cs) d h = refl
-next_inside (suc i) is (c ∷ cs) d h = next_inside i is cs d (omega arith)
-
-pub next_step : (p : List ℕ) (i : ℕ) (is : List ℕ) (n : Node) (k : ℕ) (t : Kind) (a : Act) (cs : List Code) (c : Code) → p ≡ i ∷ is
-    → n ≡ Node.step k t a (children_of (map child_ids cs)) → c ≡ get_or cs i c → i < length cs
-    → next p n ≡ option_or (option_map (λ js. i ∷ js) (next is (node_ids c.node))) (option_map (λ d. suc i ∷ []) (child_in (suc i) (children_of (map child_ids cs))))
-next_step p i is n k t a cs c e f g h =
-    ap (λ q. next q n) e ∙ ap (λ m. next (i ∷ is) m) f
-    ∙ ap (λ o. option_or (option_map (λ js. i ∷ js) o) (option_map (λ d. suc i ∷ []) (child_in (suc i) (children_of (map child_ids cs)))))
-    (next_inside i is cs c h ∙ ap (λ (x : Child). next is x.node) (sym (ap child_ids g) ∙ child_opens c))
-
--- it was found inside the child
-pub added_inside : (i : ℕ) (old pushed new : List ℕ) (m o : Option (List ℕ)) (c : Option Child) → m ≡ option_or (option_map (λ js. i ∷ js) o) (option_map (λ d. suc i ∷ []) c)
-    → pushed ≡ old ++ i ∷ [] → IsAdded pushed new o true → IsAdded old new m true
-added_inside i old pushed new m None c k e h = absurd (let q = h.0 in cc)
-added_inside i old pushed new m (Some js) c k e h =
-    subst (λ w. IsAdded old new w true) (sym k) (refl, h.1 ∙ ap (λ xs. xs ++ js) e ∙ append_assoc old (i ∷ []) js)
-
--- what was pushed is popped again, where nothing was found inside the child
-pub popped : (i : ℕ) (old pushed found new : List ℕ) (o : Option (List ℕ)) (r : Option ℕ) → pushed ≡ old ++ i ∷ [] → IsAdded pushed found o false
-    → MatchOption r ((found ≡ []) × (new ≡ [])) (λ last. found ≡ new ++ last ∷ []) → (o ≡ None) × (new ≡ old)
-popped i old pushed found new (Some js) r e h m = absurd (let q = h.0 in cc)
-popped i [] pushed found new None None e h m = absurd (let q : i ∷ [] ≡ [] = sym (h.1 ∙ e) ∙ m.0 in cc)
-popped i (a ∷ old) pushed found new None None e h m = absurd (let q : a ∷ (old ++ i ∷ []) ≡ [] = sym (h.1 ∙ e) ∙ m.0 in cc)
-popped i old pushed found new None (Some last) e h m = (refl, (same_from_push new old last i (sym m ∙ h.1 ∙ e)).0)
-
-behind_within : (i : ℕ) (cs : List Code) → i < length cs → (c : Child) × (child_in i (children_of (map child_ids cs)) ≡ Some c)
+pub behind_within : (i : ℕ) (cs : List Code) → i < length cs → (c : Child) × (child_in i (children_of (map child_ids cs)) ≡ Some c)
 behind_within i [] h = absurd (omega arith)
 behind_within zero (c ∷ cs) h = (child_ids c, refl)
 behind_within (suc i) (c ∷ cs) h = behind_within i cs (omega arith)
 
-behind_past : (i : ℕ) (cs : List Code) → length cs ≤ i → child_in i (children_of (map child_ids cs)) ≡ None
+pub behind_past : (i : ℕ) (cs : List Code) → length cs ≤ i → child_in i (children_of (map child_ids cs)) ≡ None
 behind_past i [] h = refl
 behind_past zero (c ∷ cs) h = absurd (omega arith)
 behind_past (suc i) (c ∷ cs) h = behind_past i cs (omega arith)
-
--- the child behind it, or none
-pub added_behind : (i : ℕ) (cs : List Code) (old new : List ℕ) (m o : Option (List ℕ))
-    → m ≡ option_or (option_map (λ js. i ∷ js) o) (option_map (λ d. suc i ∷ []) (child_in (suc i) (children_of (map child_ids cs))))
-    → o ≡ None → i + 1 < length cs → new ≡ old ++ (i + 1) ∷ [] → IsAdded old new m true
-added_behind i cs old new m o w e h g =
-    let b = behind_within (suc i) cs (omega arith) in
-    let k : i + 1 ≡ suc i = omega arith in
-    let z : Some (suc i ∷ []) ≡ m =
-    sym (w ∙ ap (λ u. option_or (option_map (λ js. i ∷ js) u) (option_map (λ d. suc i ∷ []) (child_in (suc i) (children_of (map child_ids cs))))) e
-    ∙ ap (λ (u : Option Child). option_map (λ d. suc i ∷ []) u) b.1) in
-    subst (λ u. IsAdded old new u true) z (refl, g ∙ ap (λ u. old ++ u ∷ []) k)
-
-pub added_none : (i : ℕ) (cs : List Code) (old new : List ℕ) (m o : Option (List ℕ))
-    → m ≡ option_or (option_map (λ js. i ∷ js) o) (option_map (λ d. suc i ∷ []) (child_in (suc i) (children_of (map child_ids cs))))
-    → o ≡ None → length cs ≤ i + 1 → new ≡ old → IsAdded old new m false
-added_none i cs old new m o w e h g =
-    let b = behind_past (suc i) cs (omega arith) in
-    let z : None ≡ m =
-    sym (w ∙ ap (λ u. option_or (option_map (λ js. i ∷ js) u) (option_map (λ d. suc i ∷ []) (child_in (suc i) (children_of (map child_ids cs))))) e
-    ∙ ap (λ (u : Option Child). option_map (λ d. suc i ∷ []) u) b) in
-    subst (λ u. IsAdded old new u false) z (refl, g)
 
 -- the path of a node that is a Step leads into one of its children
 pub step_within : (p : List ℕ) (n : Node) (k : ℕ) (t : Kind) (a : Act) (cs : List Code) → 1 ≤ length p → n ≡ Node.step k t a (children_of (map child_ids cs))
     → IsFirst p n → IsFirstOf (slice_index_or p 0 0) (take (length p - 1) (drop 1 p)) (children_of (map child_ids cs))
 step_within p n k t a cs l e h = first_step p _ _ n k t a (children_of (map child_ids cs)) (first_place p l) e h
-
--- what was added to no places
-pub added_found : (old new : List ℕ) (m : Option (List ℕ)) → old ≡ [] → IsAdded old new m true → Some new ≡ m
-added_found old new None e h = absurd (let q = h.0 in cc)
-added_found old new (Some is) e h = ap Some (h.1 ∙ ap (λ xs. xs ++ is) e)
-
-pub added_nothing : (old new : List ℕ) (m : Option (List ℕ)) → IsAdded old new m false → None ≡ m
-added_nothing old new None h = refl
-added_nothing old new (Some is) h = absurd (let q = h.0 in cc)

@@ -1,11 +1,11 @@
 -- What the type of tableaux keeps: as the store grows, as a Step is put, and as a leaf is closed.
 use Rattle.std.proofs.Common.{◌≡◌, Bool, ℕ, zero, suc, ◌+◌, ◌<◌, ◌≤◌, true, false, refl, ap, sym, subst, ◌∙◌, List, [], ◌∷◌, ◌++◌, length, Option, None, Some, IfSome, map, not, is_some, arith}
 use Rattle.std.specs.Option.{option_map}
-use Rattle.std.proofs.lemmas.List.{length-append, append-nil}
+use Rattle.std.proofs.lemmas.List.{length-append, length-map, append-nil}
 use Rattle.zm_logic.specs.Tree.{Form}
 use Rattle.choosers.specs.declared.offer.Kind.{Kind}
 use Rattle.term_store.specs.declared.ids.FormId.{FormId}
-use Rattle.term_store.specs.Trees.{Tables, Extends}
+use Rattle.term_store.specs.Trees.{Tables, Extends, form_of}
 use Rattle.param_store.specs.declared.offer.Act.{Act}
 use Rattle.param_store.specs.View.{forms_of, lists_of, HasForms}
 use Rattle.param_store.proofs.Stay.{forms_still, forms_stay}
@@ -18,15 +18,18 @@ use Rattle.branch.specs.Branch.{closing, extend}
 use Rattle.branch.specs.Sound.{AreGiven}
 use Rattle.branch.specs.EqualityFree.{AreEqualityFree}
 use Rattle.branch.specs.Tableau as tableau
-use Rattle.branch.specs.Tableau.{IsTableau, IsLawful, current_leaf, enter, count, picks, height, height_all, is_skipped}
+use Rattle.branch.specs.Tableau.{IsTableau, IsLawful, current_leaf, Leaf, enter, count, picks, height, height_all, is_skipped}
 use Rattle.branch.specs.Laws.{LeavesMayBeReplaced, ReplacedLeavesAreCurrent, IsGrown}
 use Rattle.branch.specs.Replaced.{replaced}
 use Rattle.branch.specs.Ids.{Node, Children, node_ids, tree_of, trees_of, closing_of, HasNode, HasClosing}
-use Rattle.branch.specs.Path.{IsFinished, IsFirst, IsFirstOf, put, next, along, brought, extend_all}
+use Rattle.branch.specs.Path.{IsFinished, IsFirst, IsFirstOf, put, along, brought, extend_all}
+use Rattle.branch.specs.declared.levels.Level.{Level}
+use Rattle.branch.specs.Climbing.{skipped, pruned, behind, renoted, Climbs, IsClimb, AreNoted}
 use Rattle.branch.specs.State.{State, setting, given_ids, normal_ids, given_forms, root, table, tree, IsBegun, IsTree, branch_at, leaf_at, HasOffers, IsCurrent, HasCurrent, IsKept}
 use Rattle.branch.specs.Stepped.{IsAbove, IsOfBranch}
-use Rattle.branch.proofs.Paths.{put_replaced, step_first, lawful_behind, finished_tree, first_unfinished}
-use Rattle.branch.proofs.Moves.{next_none, next_first, next_current}
+use Rattle.branch.proofs.Paths.{IsOpenBehind, put_replaced, step_first, lawful_behind, first_leaf, finished_tree, first_unfinished}
+use Rattle.branch.proofs.Moves.{pruned_finished, behind_first, behind_current, skipped_has, pruned_replaced}
+use Rattle.branch.proofs.Noticed.{levels_still, noted_stays, levels_push, levels_again, step_noted}
 use Rattle.branch.proofs.Standing.{closing_still, closing_stays, node_still, tree_stays, put_has}
 
 -- a leaf whose offers are listed
@@ -44,6 +47,7 @@ over t v c = record {
   node = t.node;
   run = t.run;
   current = c;
+  levels = t.levels;
 }
 
 -- as the store grows
@@ -102,6 +106,9 @@ module _ (t : State) (v : Tables) (e : Extends t.store v) (c' : Option Current) 
         has_closing = pair.0;
         closing = pair.1 ∙ h.closing ∙ ap closing (sym forms);
         offers = os;
+        has_levels = levels_still t.store v e t.levels h.has_levels;
+        noted = subst (λ r. AreNoted v r c.path (node_ids t.node) t.levels) (sym (root_stays b))
+            (noted_stays t.store v e (root t) c.path (node_ids t.node) t.levels g.has_node h.has_levels h.noted);
       }
 
 -- a tableau whose offers were listed is kept
@@ -117,8 +124,8 @@ listed_kept t v c o e k p os =
     }
 
 -- the tableau with another tree, numbers, picks and current leaf
-abbrev pub moved : State → code.Node → List FormId → List ℕ → Option Current → State
-moved t y params run d = record {
+abbrev pub moved : State → code.Node → List FormId → List ℕ → Option Current → List Level → State
+moved t y params run d ls = record {
   symbols = t.symbols;
   rewrites = t.rewrites;
   store = t.store;
@@ -127,6 +134,7 @@ moved t y params run d = record {
   node = y;
   run = run;
   current = d;
+  levels = ls;
 }
 
 -- what a node has to be in the place of the current leaf
@@ -136,21 +144,19 @@ pub record Fits (t : State) (c : Current) (x : Node) : Type 0 where
   pub entered : is_skipped (tree_of t.store x) ≡ false
   pub high : length c.path + height (tree_of t.store x) ≤ 512
 
--- y is the tree with x in the place of the current leaf
-module _ (replaces : LeavesMayBeReplaced) (t : State) (c : Current) (x : Node) (y : code.Node) (same : node_ids y ≡ put c.path x (node_ids t.node))
+-- y is the tree in which the current leaf is replaced by x
+module _ (replaces : LeavesMayBeReplaced) (t : State) (c : Current) (x : Node) (y : code.Node) (has_y : HasNode t.store (node_ids y))
+    (moved_tree : tree_of t.store (node_ids y) ≡ replaced true (root t) (tree_of t.store x) (tree t))
     (b : IsBegun t) (g : IsTree t) (h : IsCurrent t c) (f : Fits t c x) where
-  pub moved_tree : tree_of t.store (node_ids y) ≡ replaced false (root t) (tree_of t.store x) (tree t)
-  moved_tree = ap (tree_of t.store) same ∙ put_replaced t.store c.path (node_ids t.node) x (root t) h.leads
-
-  grown : IsGrown (setting t) (root t) (tree t) (tree_of t.store x) (replaced false (root t) (tree_of t.store x) (tree t))
+  grown : IsGrown (setting t) (root t) (tree t) (tree_of t.store x) (replaced true (root t) (tree_of t.store x) (tree t))
   grown = replaces (setting t) (root t) (tree t) (tree_of t.store x) (leaf_at t c) g.tableau h.leaf f.entered f.lawful f.high
 
   -- with the node's picks noted, it is a tableau again
-  pub tree_moved : (params : List FormId) (run : List ℕ) (d : Option Current) → HasForms t.store params
+  pub tree_moved : (params : List FormId) (run : List ℕ) (d : Option Current) (ls : List Level) → HasForms t.store params
       → run ≡ t.run ++ picks (tree_of t.store x) → length run ≡ length t.run + count (tree_of t.store x) → length run ≤ 1000000
-      → IsTree (moved t y params run d)
-  tree_moved params run d k p n l = record {
-    has_node = subst (HasNode t.store) (sym same) (put_has t.store c.path x (node_ids t.node) f.has g.has_node);
+      → IsTree (moved t y params run d ls)
+  tree_moved params run d ls k p n l = record {
+    has_node = has_y;
     has_params = k;
     tableau = subst (IsTableau (setting t) (root t)) (sym moved_tree) grown.tableau;
     picked = ap picks moved_tree ∙ grown.picked ∙ ap (λ ks. ks ++ picks (tree_of t.store x)) g.picked ∙ sym p;
@@ -158,8 +164,8 @@ module _ (replaces : LeavesMayBeReplaced) (t : State) (c : Current) (x : Node) (
     few = l;
   }
 
-  pub begun_moved : (params : List FormId) (run : List ℕ) (d : Option Current) → IsBegun (moved t y params run d)
-  begun_moved params run d = record {
+  pub begun_moved : (params : List FormId) (run : List ℕ) (d : Option Current) (ls : List Level) → IsBegun (moved t y params run d ls)
+  begun_moved params run d ls = record {
     has_given = b.has_given;
     normal = b.normal;
     signature = b.signature;
@@ -193,6 +199,10 @@ pub record IsNoted (s : Tables) (b : Branch) (fs : List Form) : Type 0 where
 abbrev pub leaf_of : List ℕ → Branch → Current
 leaf_of p b = record { path = p; branch = b; offered = None }
 
+-- the level of a Step that is put
+abbrev pub first_level : ℕ → Level
+first_level n = record { above = n; used = [] }
+
 -- a Step with an Open first child is put, and that child is current then
 module _ (replaces : LeavesMayBeReplaced) (goes : ReplacedLeavesAreCurrent) (t : State) (c : Current) (k : IsKept t) (h : IsCurrent t c)
     (pick : ℕ) (kind : Kind) (act : Act) (r f : List FormId) (ns : Children) where
@@ -203,33 +213,45 @@ module _ (replaces : LeavesMayBeReplaced) (goes : ReplacedLeavesAreCurrent) (t :
       → length c.path < 512 → length t.run < 1000000
       → (params : List FormId) → HasForms t.store params → forms_of t.store params ≡ enter (table t) (forms_of t.store f)
       → (b : Branch) → IsNoted t.store b (extend (branch_at t c.branch) (forms_of t.store f))
-      → IsKept (moved t y params (t.run ++ pick ∷ []) (Some (leaf_of (c.path ++ 0 ∷ []) b)))
+      → IsKept (moved t y params (t.run ++ pick ∷ []) (Some (leaf_of (c.path ++ 0 ∷ []) b)) (t.levels ++ first_level (length c.branch.forms) ∷ []))
   step_kept y same fits ks one short few params has entered b noted =
       let now = Some (leaf_of (c.path ++ 0 ∷ []) b) in
       let run = t.run ++ pick ∷ [] in
+      let ls = t.levels ++ first_level (length c.branch.forms) ∷ [] in
       let n : length run ≡ length t.run + 1 = length-append t.run (pick ∷ []) in
       let longer : length (c.path ++ 0 ∷ []) ≡ length c.path + 1 = length-append c.path (0 ∷ []) in
       let there = goes (setting t) (root t) (tree t) (tree_of t.store the_step) (leaf_at t c) h.leaf refl in
+      let has_y : HasNode t.store (node_ids y) = subst (HasNode t.store) (sym same) (put_has t.store c.path the_step (node_ids t.node) fits.has k.tree.has_node) in
+      let tree_is : tree_of t.store (node_ids y) ≡ replaced true (root t) (tree_of t.store the_step) (tree t) =
+      ap (tree_of t.store) same ∙ put_replaced t.store c.path (node_ids t.node) the_step (root t) h.leads refl in
+      let branch : branch_at t c.branch ≡ extend_all (root t) (lists_of t.store (along c.path (node_ids t.node))) =
+      ap (λ (l : Leaf). l.branch) (first_leaf t.store c.path (node_ids t.node) (enter [] (root t)) (root t) 0 (leaf_at t c) h.leads h.leaf) in
+      let above : length c.branch.forms ≡ length (extend_all (root t) (lists_of t.store (along c.path (node_ids t.node)))) =
+      sym (length-map c.branch.forms (form_of t.store)) ∙ ap length branch in
       record {
-        begun = begun_moved replaces t c the_step y same k.begun k.tree h fits params run now;
-        tree = tree_moved replaces t c the_step y same k.begun k.tree h fits params run now has (ap (λ z. t.run ++ z) (sym ks)) (n ∙ ap (λ m. length t.run + m) (sym one)) (omega (arith, n, few));
+        begun = begun_moved replaces t c the_step y has_y tree_is k.begun k.tree h fits params run now ls;
+        tree = tree_moved replaces t c the_step y has_y tree_is k.begun k.tree h fits params run now ls has (ap (λ z. t.run ++ z) (sym ks)) (n ∙ ap (λ m. length t.run + m) (sym one)) (omega (arith, n, few));
         current = record {
           has = noted.has;
           leads = subst (IsFirst (c.path ++ 0 ∷ [])) (sym same) (step_first pick kind act r f ns c.path (node_ids t.node) h.leads);
           short = omega (arith, longer, short);
-          leaf = ap (current_leaf (root t)) (moved_tree replaces t c the_step y same k.begun k.tree h fits) ∙ there
+          leaf = ap (current_leaf (root t)) tree_is ∙ there
               ∙ ap (λ x. Some (record { branch = x; above = length c.path + 1; table = enter (table t) (forms_of t.store f) })) (sym noted.forms)
               ∙ ap (λ x. Some (record { branch = forms_of t.store b.forms; above = x; table = enter (table t) (forms_of t.store f) })) (sym longer)
               ∙ ap (λ x. Some (record { branch = forms_of t.store b.forms; above = length (c.path ++ 0 ∷ []); table = x })) (sym entered);
           has_closing = noted.has_closing;
           closing = noted.closing;
           offers = tt;
+          has_levels = levels_push t.store t.levels (first_level (length c.branch.forms)) h.has_levels tt;
+          noted = subst (λ n. AreNoted t.store (root t) (c.path ++ 0 ∷ []) n ls) (sym same)
+              (step_noted t.store pick kind act r f ns c.path (node_ids t.node) (root t) t.levels (length c.branch.forms) h.leads h.noted above);
         };
       }
 
 -- a leaf is closed
 module _ (replaces : LeavesMayBeReplaced) (t : State) (c : Current) (k : IsKept t) (h : IsCurrent t c) (pair : ClosingPair)
-    (fits : Fits t c (Node.closed pair)) (y : code.Node) (same : node_ids y ≡ put c.path (Node.closed pair) (node_ids t.node)) where
+    (fits : Fits t c (Node.closed pair)) (kept : ℕ) (climbs : Climbs t.store (root t) kept c.path (Node.closed pair) (node_ids t.node))
+    (y : code.Node) (same : node_ids y ≡ pruned kept c.path (Node.closed pair) (node_ids t.node)) where
   no_more : (ks : List ℕ) → ks ≡ ks ++ []
   no_more ks = sym (append-nil ks)
 
@@ -239,38 +261,67 @@ module _ (replaces : LeavesMayBeReplaced) (t : State) (c : Current) (k : IsKept 
   none_less : (m : ℕ) → 0 + m ≡ m
   none_less m = omega arith
 
+  opens : IsOpenBehind c.path (node_ids t.node)
+  opens = lawful_behind t.store (setting t) c.path (node_ids t.node) (enter [] (root t)) (root t) k.tree.tableau.lawful h.leads
+
+  has_y : HasNode t.store (node_ids y)
+  has_y = subst (HasNode t.store) (sym same)
+      (put_has t.store c.path (Node.closed pair) (skipped kept c.path (node_ids t.node)) fits.has (skipped_has t.store kept c.path (node_ids t.node) k.tree.has_node))
+
+  pub closed_tree : tree_of t.store (node_ids y) ≡ replaced true (root t) (tree_of t.store (Node.closed pair)) (tree t)
+  closed_tree = ap (tree_of t.store) same ∙ pruned_replaced t.store kept c.path (node_ids t.node) (Node.closed pair) (root t) climbs h.leads opens tt
+
   -- none is Open behind it
-  pub end_kept : next c.path (node_ids t.node) ≡ None → IsKept (moved t y t.params t.run None)
-  end_kept e = record {
-    begun = begun_moved replaces t c (Node.closed pair) y same k.begun k.tree h fits t.params t.run None;
-    tree = tree_moved replaces t c (Node.closed pair) y same k.begun k.tree h fits t.params t.run None k.tree.has_params (no_more t.run) (more_none (length t.run)) k.tree.few;
-    current = subst IsFinished (sym same) (next_none c.path (node_ids t.node) (Node.closed pair) h.leads tt e);
+  pub end_kept : kept ≡ 0 → (ls : List Level) → IsKept (moved t y t.params t.run None ls)
+  end_kept e ls = record {
+    begun = begun_moved replaces t c (Node.closed pair) y has_y closed_tree k.begun k.tree h fits t.params t.run None ls;
+    tree = tree_moved replaces t c (Node.closed pair) y has_y closed_tree k.begun k.tree h fits t.params t.run None ls k.tree.has_params (no_more t.run) (more_none (length t.run)) k.tree.few;
+    current = subst IsFinished (ap (λ d. pruned d c.path (Node.closed pair) (node_ids t.node)) (sym e) ∙ sym same) (pruned_finished c.path (node_ids t.node) (Node.closed pair) h.leads tt);
   }
 
-  -- the next child is current then
-  pub next_kept : (q : List ℕ) → next c.path (node_ids t.node) ≡ Some q
-      → (params : List FormId) → HasForms t.store params → forms_of t.store params ≡ enter (table t) (forms_of t.store (brought q (node_ids t.node)))
+-- the child behind is current then
+module _ (replaces : LeavesMayBeReplaced) (t : State) (c : Current) (k : IsKept t) (h : IsCurrent t c) (pair : ClosingPair)
+    (fits : Fits t c (Node.closed pair)) (d : ℕ) (used : List FormId)
+    (climb : IsClimb t.store (root t) c.path (Node.closed pair) (node_ids t.node) t.levels (suc d) used)
+    (y : code.Node) (same : node_ids y ≡ pruned (suc d) c.path (Node.closed pair) (node_ids t.node)) where
+  abbrev q : List ℕ
+  q = behind (suc d) c.path
+
+  has_behind : HasNode t.store (node_ids y)
+  has_behind = has_y replaces t c k h pair fits (suc d) climb.climbs y same
+
+  tree_behind : tree_of t.store (node_ids y) ≡ replaced true (root t) (tree_of t.store (Node.closed pair)) (tree t)
+  tree_behind = closed_tree replaces t c k h pair fits (suc d) climb.climbs y same
+
+  pub behind_kept : (params : List FormId) → HasForms t.store params → forms_of t.store params ≡ enter (table t) (forms_of t.store (brought q (node_ids t.node)))
       → (b : Branch) → IsNoted t.store b (extend_all (root t) (lists_of t.store (along q (node_ids t.node))))
-      → IsKept (moved t y params t.run (Some (leaf_of q b)))
-  next_kept q e params has entered b noted =
+      → IsKept (moved t y params t.run (Some (leaf_of q b)) (renoted (suc d) used t.levels))
+  behind_kept params has entered b noted =
       let now = Some (leaf_of q b) in
-      let kept = tree_moved replaces t c (Node.closed pair) y same k.begun k.tree h fits params t.run now has (no_more t.run) (more_none (length t.run)) k.tree.few in
-      let first = next_first c.path (node_ids t.node) (Node.closed pair) q h.leads (lawful_behind t.store (setting t) c.path (node_ids t.node) (enter [] (root t)) (root t) k.tree.tableau.lawful h.leads) tt e in
-      let there = next_current t.store (setting t) c.path (node_ids t.node) (Node.closed pair) q (enter [] (root t)) (root t) 0 (leaf_at t c) k.tree.tableau.lawful h.leads tt refl e h.leaf refl in
+      let ls = renoted (suc d) used t.levels in
+      let more : (ks : List ℕ) → ks ≡ ks ++ [] = λ ks. sym (append-nil ks) in
+      let none : (m : ℕ) → m ≡ m + 0 = λ m. omega arith in
+      let less : (m : ℕ) → 0 + m ≡ m = λ m. omega arith in
+      let kept = tree_moved replaces t c (Node.closed pair) y has_behind tree_behind k.begun k.tree h fits params t.run now ls has (more t.run) (none (length t.run)) k.tree.few in
+      let opens = lawful_behind t.store (setting t) c.path (node_ids t.node) (enter [] (root t)) (root t) k.tree.tableau.lawful h.leads in
+      let first = behind_first t.store d c.path (node_ids t.node) (Node.closed pair) (root t) climb.climbs h.leads opens tt in
+      let there = behind_current t.store (setting t) d c.path (node_ids t.node) (Node.closed pair) (enter [] (root t)) (root t) 0 (leaf_at t c) k.tree.tableau.lawful climb.climbs h.leads tt refl h.leaf refl in
       record {
-        begun = begun_moved replaces t c (Node.closed pair) y same k.begun k.tree h fits params t.run now;
+        begun = begun_moved replaces t c (Node.closed pair) y has_behind tree_behind k.begun k.tree h fits params t.run now ls;
         tree = kept;
         current = record {
           has = noted.has;
           leads = subst (IsFirst q) (sym same) first;
-          short = (let l = first_short t.store q (put c.path (Node.closed pair) (node_ids t.node)) first in let m = subst (λ n. height (tree_of t.store n) ≤ 512) same kept.tableau.high in omega (arith, l, m));
+          short = (let l = first_short t.store q (pruned (suc d) c.path (Node.closed pair) (node_ids t.node)) first in let m = subst (λ n. height (tree_of t.store n) ≤ 512) same kept.tableau.high in omega (arith, l, m));
           leaf = ap (λ n. current_leaf (root t) (tree_of t.store n)) same ∙ there
-              ∙ ap (λ z. Some (record { branch = extend_all (root t) (lists_of t.store (along q (node_ids t.node))); above = z; table = enter (table t) (forms_of t.store (brought q (node_ids t.node))) })) (none_less (length q))
+              ∙ ap (λ z. Some (record { branch = extend_all (root t) (lists_of t.store (along q (node_ids t.node))); above = z; table = enter (table t) (forms_of t.store (brought q (node_ids t.node))) })) (less (length q))
               ∙ ap (λ x. Some (record { branch = x; above = length q; table = enter (table t) (forms_of t.store (brought q (node_ids t.node))) })) (sym noted.forms)
               ∙ ap (λ x. Some (record { branch = forms_of t.store b.forms; above = length q; table = x })) (sym entered);
           has_closing = noted.has_closing;
           closing = noted.closing;
           offers = tt;
+          has_levels = levels_again t.store (suc d) used t.levels h.has_levels climb.has;
+          noted = subst (λ n. AreNoted t.store (root t) q n ls) (sym same) climb.uses;
         };
       }
 

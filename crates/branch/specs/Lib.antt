@@ -17,6 +17,7 @@ pub mod Laws
 pub mod Worked
 pub mod Ids
 pub mod Path
+pub mod Climbing
 pub mod EqualityFree
 pub mod Left
 pub mod Listed

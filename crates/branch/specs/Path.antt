@@ -104,22 +104,3 @@ above (i ∷ j ∷ js) = i ∷ above (j ∷ js)
 pub record LeadsBelow (s : Tables) (roots : List FormId) (p : List ℕ) (n : Node) : Type 0 where
   pub last : along p n ≡ along (above p) n ++ brought p n ∷ []
   pub unclosed : closing (extend_all (extend [] (forms_of s roots)) (lists_of s (along (above p) n))) ≡ None
-
--- The path to the next child: one inside the child to which the path's first place leads, or else the child behind it.
-abbrev mutual
-  pub next : List ℕ → Node → Option (List ℕ)
-  next [] n = None
-  next (i ∷ is) (Node.step k t a ns) = option_or (option_map (λ js. i ∷ js) (next_in i is ns)) (option_map (λ c. suc i ∷ []) (child_in (suc i) ns))
-  next (i ∷ is) (Node.closed c) = None
-  next (i ∷ is) Node.opened = None
-  next (i ∷ is) Node.skipped = None
-
-  pub next_in : ℕ → List ℕ → Children → Option (List ℕ)
-  next_in i is Children.none = None
-  next_in zero is (Children.more r f n ns) = next is n
-  next_in (suc i) is (Children.more r f n ns) = next_in i is ns
-
--- the path stands behind the places that were there, if there is one
-abbrev pub IsAdded : List ℕ → List ℕ → Option (List ℕ) → Bool → Type 0
-IsAdded old new None found = (found ≡ false) × (new ≡ old)
-IsAdded old new (Some is) found = (found ≡ true) × (new ≡ old ++ is)

@@ -38,4 +38,4 @@ pub record IsOneLeaf (symbols : List Symbol) (rewrites : ℕ) (store : Tables) (
 -- what a tableau of these parts keeps from its start
 abbrev pub MayBegin : List Symbol → ℕ → Tables → List Rooted → Type 0
 MayBegin symbols rewrites store roots =
-    IsBegun (record { symbols = symbols; rewrites = rewrites; store = store; params = []; roots = roots; node = code_node.Open; run = []; current = None })
+    IsBegun (record { symbols = symbols; rewrites = rewrites; store = store; params = []; roots = roots; node = code_node.Open; run = []; current = None; levels = [] })

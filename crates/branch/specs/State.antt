@@ -9,6 +9,7 @@ use Rattle.term_store.specs.Trees.{Tables, form_of}
 use Rattle.term_store.specs.declared.ids.FormId.{FormId}
 use Rattle.param_store.specs.View.{forms_of, HasForms}
 use Rattle.branch.specs.declared.node.Node.{Node}
+use Rattle.branch.specs.declared.levels.Level.{Level}
 use Rattle.branch.specs.declared.tableau.Rooted.{Rooted}
 use Rattle.branch.specs.declared.tableau.Branch.{Branch}
 use Rattle.branch.specs.declared.tableau.Current.{Current}
@@ -23,6 +24,7 @@ use Rattle.branch.specs.Ids.{node_ids, tree_of, closing_of, HasNode, HasClosing}
 use Rattle.branch.specs.Path.{IsFinished, IsFirst}
 use Rattle.branch.specs.EqualityFree.{AreEqualityFree}
 use Rattle.branch.specs.Listed.{AreListed}
+use Rattle.branch.specs.Climbing.{HasLevels, AreNoted}
 
 -- its parts
 pub record State : Type 0 where
@@ -34,10 +36,11 @@ pub record State : Type 0 where
   pub node : Node
   pub run : List ℕ
   pub current : Option Current
+  pub levels : List Level
 
--- no rules, and no pruning
+-- no rules
 abbrev pub setting : State → Setting
-setting t = record { symbols = map symbol_tree t.symbols; rules = []; rewrites = t.rewrites; prunes = false }
+setting t = record { symbols = map symbol_tree t.symbols; rules = []; rewrites = t.rewrites; prunes = true }
 
 -- the ids of the formulas that the tableau began with, and of their normal forms
 abbrev pub given_ids : State → List FormId
@@ -100,6 +103,8 @@ pub record IsCurrent (t : State) (c : Current) : Type 0 where
   pub has_closing : IfSome c.branch.closing (HasClosing t.store)
   pub closing : option_map (closing_of t.store) c.branch.closing ≡ closing (branch_at t c.branch)
   pub offers : HasOffers t (leaf_at t c) c.offered
+  pub has_levels : HasLevels t.store t.levels
+  pub noted : AreNoted t.store (root t) c.path (node_ids t.node) t.levels
 
 -- the current leaf is the first Open one; where there is none, no leaf is Open
 abbrev pub HasCurrent : State → Option Current → Type 0

@@ -1,5 +1,5 @@
 -- What the calls that change a tableau do.
-use Rattle.std.specs.Prelude.{ℕ, ◌≡◌, ◌<◌, false, List, [], ◌∷◌, Option, None, Some, length, map, slice_get}
+use Rattle.std.specs.Prelude.{ℕ, ◌≡◌, ◌<◌, true, false, List, [], ◌∷◌, Option, None, Some, length, map, slice_get}
 use Rattle.std.specs.Option.{option_map}
 use Rattle.zm_logic.specs.Tree.{Problem}
 use Rattle.zm_logic.specs.View.{symbol_tree}
@@ -44,6 +44,7 @@ pub record IsSame (t u : State) : Type 0 where
   pub node : u.node ≡ t.node
   pub run : u.run ≡ t.run
   pub place : IsSamePlace t.current u.current
+  pub levels : u.levels ≡ t.levels
 
 -- some leaf is Open
 abbrev pub IsOpen : State → Type 0
@@ -84,7 +85,7 @@ pub record IsApplied (t : State) (pick : ℕ) (u : State) : Type 0 where
   pub are_offers : AreOffers (setting t) leaf.table leaf.branch offers
   pub offer : Offer
   pub taken : slice_get offers pick ≡ Some offer
-  pub grown : tree u ≡ replaced false (root t) (tableau.Node.step pick offer.kind offer.act (opening offer.children)) (tree t)
+  pub grown : tree u ≡ replaced true (root t) (tableau.Node.step pick offer.kind offer.act (opening offer.children)) (tree t)
 
 -- a Closed leaf stands in the place of the current one
 pub record IsClosedAt (t u : State) : Type 0 where
@@ -93,7 +94,7 @@ pub record IsClosedAt (t u : State) : Type 0 where
   pub is_current : current_leaf (root t) (tree t) ≡ Some leaf
   pub pair : Closing
   pub closes : closing leaf.branch ≡ Some pair
-  pub grown : tree u ≡ replaced false (root t) (tableau.Node.closed pair) (tree t)
+  pub grown : tree u ≡ replaced true (root t) (tableau.Node.closed pair) (tree t)
 
 -- a tableau of the formulas of a problem that are refuted, which is one Open leaf
 pub record IsStarted (p : Problem) (rewrites : ℕ) (t : State) : Type 0 where

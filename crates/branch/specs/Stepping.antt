@@ -12,10 +12,10 @@ use Rattle.branch.specs.declared.tableau.Offered.{Offered}
 use Rattle.branch.specs.Branch.{closing}
 use Rattle.branch.specs.Setting.{Setting}
 use Rattle.branch.specs.Ids.{Node, Child, children_of, node_ids, closing_of, HasClosing}
-use Rattle.branch.specs.Path.{next}
+use Rattle.branch.specs.Climbing.{Climbs, IsClimb}
 use Rattle.branch.specs.Listed.{EachListed, listed_of}
 use Rattle.branch.specs.Offers.{AreOffers}
-use Rattle.branch.specs.State.{State}
+use Rattle.branch.specs.State.{State, root}
 
 -- a child that is an Open leaf, and one for each list of formulas
 abbrev pub open_leaf : List FormId → List FormId → Child
@@ -74,6 +74,10 @@ IsListing t = OfCurrent t (λ c. (o : Offered) × (c.offered ≡ Some o))
 abbrev pub ClosesCurrent : State → ClosingPair → Type 0
 ClosesCurrent t pair = OfCurrent t (λ c. c.branch.closing ≡ Some pair)
 
--- the next child behind the current leaf, or none
-abbrev pub GoesTo : State → Option (List ℕ) → Type 0
-GoesTo t to = OfCurrent t (λ c. next c.path (node_ids t.node) ≡ to)
+-- once this pair closes the current leaf, so many places of its path stay, with these uses
+abbrev pub LeadsUp : State → ClosingPair → ℕ → List FormId → Type 0
+LeadsUp t pair kept used = OfCurrent t (λ c. IsClimb t.store (root t) c.path (Node.closed pair) (node_ids t.node) t.levels kept used)
+
+-- and here no leaf is Open then
+abbrev pub EndsAll : State → ClosingPair → Type 0
+EndsAll t pair = OfCurrent t (λ c. Climbs t.store (root t) 0 c.path (Node.closed pair) (node_ids t.node))

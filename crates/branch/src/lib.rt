@@ -1,19 +1,20 @@
 //! Branches, their offers, and tableaux of the whole calculus: quantifiers over terms and types, equality, and formulas
 //! kept in normal form by rewrite rules. The definitions stand in `specs/`, and what they promise in `laws`.
 //!
-//! The code builds tableaux of problems without equality, and so far with no rules and no pruning: a [`Tableau`] is begun
+//! The code builds tableaux of problems without equality, and so far with no rules: a [`Tableau`] is begun
 //! by `start`, lists its `offers` at its first Open leaf, and goes on by `apply` and `close_leaf`.
 #![tactic(auto)]
 
 mod along;
+mod climbing;
 mod closing;
 mod entering;
 mod form_set;
 pub mod laws;
+mod levels;
 mod listed;
 mod listing;
 mod lookup;
-mod next;
 mod node;
 mod place;
 mod sizes;

@@ -220,6 +220,7 @@ fn at_root(
             branch,
             offered: None,
         }),
+        levels: Vec::new(alloc),
         state: Open,
     })
 }

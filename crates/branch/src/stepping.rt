@@ -1,4 +1,4 @@
-ghost use Rattle.std.specs.Prelude.{◌≡◌, ◌≢◌, ◌<◌, ◌≤◌, ◌++◌, [], ◌∷◌, None, Some, map, length, take, slice_get, OnOk, OnErr, IfOk, IfErr};
+ghost use Rattle.std.specs.Prelude.{◌≡◌, ◌≢◌, ◌<◌, ◌≤◌, ◌++◌, [], ◌∷◌, None, Some, All, map, length, take, slice_get, OnOk, OnErr, IfOk, IfErr};
 ghost use Rattle.std.specs.Borrow.{sem};
 ghost use Rattle.zm_logic.specs.View.{symbol_tree};
 ghost use Rattle.term_store.specs.Open.{HasRedex, redex_of};
@@ -9,21 +9,23 @@ ghost use Rattle.branch.specs.Branch.{closing, extend};
 ghost use Rattle.branch.specs.Ids.{HasNode, child_ids, node_ids};
 ghost use Rattle.branch.specs.Normal.{Fault};
 ghost use Rattle.branch.specs.Offers.{HasFault};
-ghost use Rattle.branch.specs.Path.{IsFirst, LeadsBelow, above as spec_above, along, extend_all, put};
+ghost use Rattle.branch.specs.Path.{IsFirst, LeadsBelow, above as spec_above, along, extend_all};
+ghost use Rattle.branch.specs.Climbing.{behind, pruned};
 ghost use Rattle.branch.specs.Setting.{Setting};
 ghost use Rattle.branch.specs.Tableau as spec;
 ghost use Rattle.branch.specs.Listed.{IfStop};
 ghost use Rattle.branch.specs.Listing.{IsReady};
 ghost use Rattle.branch.specs.State.{tree};
 ghost use Rattle.branch.specs.Stepped.{IsOpen, IsUnclosed, AtLeaf, HasOffer, IsApplied, IsClosedAt, IsSame, AreOffersSeen, IsTooDeep};
-ghost use Rattle.branch.specs.Stepping.{AreOffersOf, ClosesCurrent, GoesTo, HasListed, IsLeaf, IsListedAt, IsListing, closed_ids, open_leaf, open_leaves, step_ids};
+ghost use Rattle.branch.specs.Stepping.{AreOffersOf, ClosesCurrent, LeadsUp, EndsAll, HasListed, IsLeaf, IsListedAt, IsListing, closed_ids, open_leaf, open_leaves, step_ids};
 
 use crate::along::{add_along, brought};
+use crate::climbing::climbed;
 use crate::closing::closing_after;
 use crate::entering::{add_all, number_all};
+use crate::levels::{Level, keep_levels};
 use crate::listed::Listed;
 use crate::listing::listed_offers;
-use crate::next::next_path;
 use crate::node::{Child, ClosingPair, Node};
 use crate::place::put_at;
 use crate::start::root_forms;
@@ -170,6 +172,47 @@ fn note(
     }
 }
 
+// The level of a node that is put, with so many formulas on its branch.
+fn first_level(alloc: Global, above: usize) -> Level
+    ensures above { result.above ≡ above }
+    ensures used { result.used ≡ [] }
+{
+    Level {
+        above,
+        used: FormIds::new(alloc),
+    }
+}
+
+// Notes a Step: its pick, its level, and the numbers of the formulas of its first child. After want of memory nothing is done.
+fn note_step(
+    store: &Store,
+    params: &mut Params,
+    forms: &[FormId],
+    picks: &mut Items<usize>,
+    pick: usize,
+    levels: &mut Vec<Level>,
+    level: Level,
+) -> Result<(), AllocError>
+    requires numbered { HasForms store.now params.old }
+    requires forms { HasForms store.now forms.now }
+    ensures entered { OnOk result (forms_of store.now params.new ≡ spec.enter (forms_of store.now params.old) (forms_of store.now forms.now)) }
+    ensures has { HasForms store.now params.new }
+    ensures picked { OnOk result (picks.new ≡ picks.old ++ pick ∷ []) }
+    ensures levelled { OnOk result (levels.new.items ≡ levels.old.items ++ level ∷ []) }
+    ensures unnumbered { OnErr result (params.new ≡ params.old) }
+    ensures unpicked { OnErr result (picks.new ≡ picks.old) }
+    ensures unlevelled { OnErr result (levels.new.items ≡ levels.old.items) }
+{
+    levels.push(level)?;
+    match note(store, params, forms, picks, pick) {
+        Ok(()) => Ok(()),
+        Err(fault) => {
+            let _ = levels.pop();
+            Err(fault)
+        }
+    }
+}
+
 // A leaf with this branch, without offers. Nothing closes the formulas before `from`.
 fn leaf_of(store: &Store, path: Items<usize>, forms: FormIds, from: usize) -> Current
     requires has { HasForms store.now forms }
@@ -248,6 +291,27 @@ fn leaf_along(
     Ok(leaf_of(store, path, forms, branch.len()))
 }
 
+// The leaf behind the last of the first so many places of a path.
+fn leaf_behind(
+    alloc: Global,
+    store: &Store,
+    roots: &[Rooted],
+    tree: &Node,
+    path: &[usize],
+    kept: usize,
+) -> Result<Current, AllocError>
+    requires some { 0 < kept }
+    requires within { kept ≤ length path.now }
+    requires room { All (λ i. i < 18446744073709551615) path.now }
+    requires has_roots { HasForms store.now (map (λ r. r.normal) roots.now) }
+    requires has_node { HasNode store.now (node_ids tree.now) }
+    requires leads { LeadsBelow store.now (map (λ r. r.normal) roots.now) (behind kept path.now) (node_ids tree.now) }
+    ensures { IfOk result (IsLeaf store.now (behind kept path.now) (extend_all (extend [] (forms_of store.now (map (λ r. r.normal) roots.now))) (lists_of store.now (along (behind kept path.now) (node_ids tree.now))))) }
+{
+    let path = path_behind(alloc, path, kept)?;
+    leaf_along(alloc, store, roots, tree, path)
+}
+
 // The offer of a leaf with this number.
 fn listed_at(current: &Current, pick: usize) -> &Listed
     requires { HasListed current.now pick }
@@ -263,13 +327,27 @@ fn closed_leaf(pair: ClosingPair) -> Node
     Node::Closed(pair)
 }
 
-// Puts a node in the place of the leaf to which a path leads.
-fn put_in_place(tree: &mut Node, path: &[usize], new: Node)
+// Puts a node in the place of the leaf to which a path leads. Behind the path's places, but for the first so many, the later
+// children are Skipped.
+fn put_in_place(tree: &mut Node, path: &[usize], kept: usize, new: Node)
     requires { IsFirst path.now (node_ids tree.old) }
-    ensures { node_ids tree.new ≡ put path.now (node_ids new) (node_ids tree.old) }
+    ensures { node_ids tree.new ≡ pruned kept path.now (node_ids new) (node_ids tree.old) }
 {
     let old = mem::replace(tree, Node::Open);
-    *tree = put_at(old, path, new);
+    *tree = put_at(old, path, kept, new);
+}
+
+// The path to the child behind the last of the first so many places.
+fn path_behind(alloc: Global, path: &[usize], kept: usize) -> Result<Items<usize>, AllocError>
+    requires some { 0 < kept }
+    requires within { kept ≤ length path.now }
+    requires room { All (λ i. i < 18446744073709551615) path.now }
+    ensures { IfOk result (λ is. is ≡ behind kept path.now) }
+{
+    let last = kept - 1;
+    let mut next = Items::from_slice(alloc, &path[..last])?;
+    next.push(path[last] + 1)?;
+    Ok(next)
 }
 
 impl Tableau<Open> {
@@ -336,8 +414,18 @@ impl Tableau<Open> {
         let first = first_of(listed);
         let node = step(self.alloc, pick, listed)?;
         let below = leaf_below(self.alloc, &self.store, current, first)?;
-        note(&self.store, &mut self.params, first, &mut self.picks, pick)?;
-        put_in_place(&mut self.tree, current.path.as_slice(), node);
+        let level = first_level(self.alloc, current.branch.forms.len());
+        note_step(
+            &self.store,
+            &mut self.params,
+            first,
+            &mut self.picks,
+            pick,
+            &mut self.levels,
+            level,
+        )?;
+        let path = current.path.as_slice();
+        put_in_place(&mut self.tree, path, path.len(), node);
         self.current = Some(below);
         Ok(())
     }
@@ -363,25 +451,29 @@ impl Tableau<Open> {
         }
     }
 
-    // Closes the current leaf, and goes to the one to which a path leads.
-    fn go_on(&mut self, pair: ClosingPair, path: Items<usize>) -> Result<(), AllocError>
+    // Closes the current leaf, and goes to the one behind the last place that stays.
+    fn go_on(&mut self, pair: ClosingPair, kept: usize, used: FormIds) -> Result<(), AllocError>
         requires closes { ClosesCurrent self.old pair }
-        requires behind { GoesTo self.old (Some path) }
+        requires some { 0 < kept }
+        requires climbs { LeadsUp self.old pair kept used }
         ensures closed { OnOk result (IsClosedAt self.old self.new) }
         ensures refused { OnErr result (self.new ≡ self.old) }
     {
         let current = self.current.as_ref().unwrap();
-        let behind = leaf_along(
+        let path = current.path.as_slice();
+        let behind = leaf_behind(
             self.alloc,
             &self.store,
             self.roots.as_slice(),
             &self.tree,
             path,
+            kept,
         )?;
         let forms = brought(&self.tree, behind.path.as_slice());
         number_all(&self.store, &mut self.params, forms)?;
         let leaf = closed_leaf(pair);
-        put_in_place(&mut self.tree, current.path.as_slice(), leaf);
+        put_in_place(&mut self.tree, path, kept, leaf);
+        keep_levels(&mut self.levels, kept, used);
         self.current = Some(behind);
         Ok(())
     }
@@ -389,16 +481,18 @@ impl Tableau<Open> {
     // Closes the current leaf, behind which there is none.
     fn end(&mut self, pair: ClosingPair)
         requires closes { ClosesCurrent self.old pair }
-        requires behind { GoesTo self.old None }
+        requires climbs { EndsAll self.old pair }
         ensures { IsClosedAt self.old self.new }
     {
         let current = self.current.as_ref().unwrap();
         let leaf = closed_leaf(pair);
-        put_in_place(&mut self.tree, current.path.as_slice(), leaf);
+        put_in_place(&mut self.tree, current.path.as_slice(), 0, leaf);
         self.current = None;
+        self.levels.truncate(0);
     }
 
-    /// Marks the current leaf as closed, and goes to the next Open leaf, if there is one.
+    /// Marks the current leaf as closed, and goes to the next Open leaf, if there is one. Where a child is finished without
+    /// a use of its new formulas, the children behind it are Skipped.
     ///
     /// The conditions are that some leaf is Open, and that its branch is closed. The one error is want of memory. After it
     /// the tableau is as it was.
@@ -410,12 +504,20 @@ impl Tableau<Open> {
     {
         let current = self.current.as_ref().unwrap();
         let pair = current.branch.closing.unwrap();
-        match next_path(self.alloc, &self.tree, current.path.as_slice())? {
-            Some(path) => self.go_on(pair, path),
-            None => {
-                self.end(pair);
-                Ok(())
-            }
+        let climb = climbed(
+            self.alloc,
+            &self.store,
+            current.branch.forms.as_slice(),
+            &self.tree,
+            current.path.as_slice(),
+            self.levels.as_slice(),
+            pair,
+        )?;
+        if climb.kept == 0 {
+            self.end(pair);
+            return Ok(());
         }
+        let used = FormIds::from_slice(self.alloc, climb.used.forms())?;
+        self.go_on(pair, climb.kept, used)
     }
 }

@@ -3,6 +3,7 @@ ghost use Rattle.branch.specs.Tableau as spec;
 ghost use Rattle.branch.specs.State.{State, IsKept, tree};
 ghost use Rattle.branch.specs.Stepped.{IsOpen, IsOfBranch, IsAbove};
 
+use crate::levels::Level;
 use crate::listed::Listed;
 use crate::node::{ClosingPair, Node};
 use choosers::Offer;
@@ -94,6 +95,8 @@ pub struct Tableau<S: Stage> {
     pub(crate) picks: Items<usize>,
     // the first Open leaf, if there is one
     pub(crate) current: Option<Current>,
+    // the nodes above it, from the root on
+    pub(crate) levels: Vec<Level>,
     pub(crate) state: S,
 }
 
@@ -107,9 +110,9 @@ impl<S: Stage> Model for Tableau<S> {
 
     ghost coded = { Prim.hlevel (codes, ty.the_row.coded, node.the_row.coded) };
 
-    ghost view = { λ t. record { symbols = t.symbols; rewrites = t.rewrites; store = t.store; params = t.params; roots = t.roots; node = t.tree; run = t.picks; current = t.current } };
+    ghost view = { λ t. record { symbols = t.symbols; rewrites = t.rewrites; store = t.store; params = t.params; roots = t.roots; node = t.tree; run = t.picks; current = t.current; levels = t.levels.items } };
 
-    ghost invariant = { λ t. Keeps S.is_closed (record { symbols = t.symbols; rewrites = t.rewrites; store = t.store; params = t.params; roots = t.roots; node = t.tree; run = t.picks; current = t.current }) };
+    ghost invariant = { λ t. Keeps S.is_closed (record { symbols = t.symbols; rewrites = t.rewrites; store = t.store; params = t.params; roots = t.roots; node = t.tree; run = t.picks; current = t.current; levels = t.levels.items }) };
 }
 
 impl<S: Stage> Tableau<S> {
@@ -226,6 +229,7 @@ impl Tableau<Open> {
             tree,
             picks,
             current,
+            levels,
             ..
         } = self;
         Ok(Tableau {
@@ -238,6 +242,7 @@ impl Tableau<Open> {
             tree,
             picks,
             current,
+            levels,
             state: Closed,
         })
     }

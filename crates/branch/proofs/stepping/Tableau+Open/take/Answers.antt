@@ -1,10 +1,16 @@
-use Rattle.std.proofs.Common.{◌≡◌, Some, ap, ◌∙◌, rules}
+use Rattle.std.proofs.Common.{◌≡◌, ℕ, List, [], ◌∷◌, ◌++◌, length, Some, ap, ◌∙◌, rules}
+use Rattle.branch.specs.declared.levels.Level.{Level}
 use Rattle.branch.specs.Ids.{Node, node_ids}
 use Rattle.branch.specs.Path.{put}
+use Rattle.branch.proofs.Moves.{skipped_none}
 use Rattle.branch.specs.Stepping.{step_ids}
 use Rattle.branch.proofs.Applying.{noted, take_listed, take_kept, take_applied, taken_listed, taken_filled, unclosed_here}
 use Rattle.branch.proofs.OpenSteps.{first_has}
+use Rattle.branch.proofs.States.{first_level}
 use Rattle.branch.proofs.stepping.Tableau+Open.take.Goals as goal
+
+level_is : (ls : List Level) (l : Level) (n : ℕ) → l.above ≡ n → l.used ≡ [] → ls ++ l ∷ [] ≡ ls ++ first_level n ∷ []
+level_is ls l n e u = ap (λ k. ls ++ record { above = k; used = l.used } ∷ []) e ∙ ap (λ us. ls ++ record { above = n; used = us } ∷ []) u
 
 pub listed_at-listed-requires : goal.listed_at-listed-requires
 listed_at-listed-requires c =
@@ -38,8 +44,8 @@ leaf_below-requires-clause-unclosed c =
     let p : c.self.inside.current ≡ Some here = search rules in
     unclosed_here _ c.args.self.now c.self.view_is c.self.invariant here p c.requires.unclosed
 
-pub note-requires-clause-forms : goal.note-requires-clause-forms
-note-requires-clause-forms c =
+pub note_step-requires-clause-forms : goal.note_step-requires-clause-forms
+note_step-requires-clause-forms c =
     let here = c.unwrap-current.result.now in
     let p : c.self.inside.current ≡ Some here = search rules in
     let l = c.listed_at-listed.result.now in
@@ -53,10 +59,12 @@ invariant_of-self-2 c =
     let l = c.listed_at-listed.result.now in
     let n = node_ids c.self.inside.tree in
     let same : node_ids c.put_in_place.new.tree ≡ put here.path (step_ids c.args.pick l) n =
-    c.put_in_place.ensures ∙ ap (λ q. put q (node_ids c.in_ok-node.node) n) c.as_slice.ensures ∙ ap (λ (x : Node). put here.path x n) c.in_ok-node.ensures in
+    c.put_in_place.ensures ∙ ap (λ m. put c.as_slice-path.result.now (node_ids c.in_ok-node.node) m) (skipped_none c.as_slice-path.result.now n)
+    ∙ ap (λ q. put q (node_ids c.in_ok-node.node) n) c.as_slice-path.ensures ∙ ap (λ (x : Node). put here.path x n) c.in_ok-node.ensures in
     take_kept _ c.args.self.now c.self.view_is c.self.invariant here p c.args.pick l c.listed_at-listed.ensures c.requires.unclosed c.requires.short c.requires.few
     c.put_in_place.new.tree same c.first_of-first.result.now c.first_of-first.ensures
-    c.note.new.params c.in_ok-note.ensures.has c.in_ok-note.ensures.entered c.note.new.picks c.in_ok-note.ensures.picked c.in_ok-below.below c.in_ok-below.ensures
+    c.note_step.new.params c.in_ok-note_step.ensures.has c.in_ok-note_step.ensures.entered c.note_step.new.picks c.in_ok-note_step.ensures.picked c.in_ok-below.below c.in_ok-below.ensures
+    c.note_step.new.levels.items (c.in_ok-note_step.ensures.levelled ∙ level_is c.self.inside.levels.items c.first_level-level.result (length here.branch.forms) (c.first_level-level.ensures.above ∙ c.len.ensures) c.first_level-level.ensures.used)
 
 pub returns-clause-applied : goal.returns-clause-applied
 returns-clause-applied c =
@@ -65,6 +73,7 @@ returns-clause-applied c =
     let l = c.listed_at-listed.result.now in
     let n = node_ids c.self.inside.tree in
     let same : node_ids c.put_in_place.new.tree ≡ put here.path (step_ids c.args.pick l) n =
-    c.put_in_place.ensures ∙ ap (λ q. put q (node_ids c.in_ok-node.node) n) c.as_slice.ensures ∙ ap (λ (x : Node). put here.path x n) c.in_ok-node.ensures in
+    c.put_in_place.ensures ∙ ap (λ m. put c.as_slice-path.result.now (node_ids c.in_ok-node.node) m) (skipped_none c.as_slice-path.result.now n)
+    ∙ ap (λ q. put q (node_ids c.in_ok-node.node) n) c.as_slice-path.ensures ∙ ap (λ (x : Node). put here.path x n) c.in_ok-node.ensures in
     take_applied _ c.args.self.now c.self.view_is c.self.invariant here p c.args.pick l c.listed_at-listed.ensures c.requires.unclosed c.requires.short
-    c.put_in_place.new.tree same c.note.new.params c.note.new.picks (Some c.in_ok-below.below)
+    c.put_in_place.new.tree same c.note_step.new.params c.note_step.new.picks (Some c.in_ok-below.below) c.note_step.new.levels.items
