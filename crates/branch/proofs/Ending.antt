@@ -69,7 +69,7 @@ module _ (t : State) (k : IsKept t) (c : Current) (h : IsCurrent t c) where
         leaf_is d p e f = ap (λ x. record { path = x; branch = d.branch; offered = None }) (sym e) ∙ ap (λ x. record { path = d.path; branch = d.branch; offered = x }) (sym f)
 
 -- what holds of the noted leaf holds of this one
-holds_of : (t : State) (c : Current) → t.current ≡ Some c → (P : Current → Type 0) → OfCurrent t P → P c
+pub holds_of : (t : State) (c : Current) → t.current ≡ Some c → (P : Current → Type 0) → OfCurrent t P → P c
 holds_of t c p P o = subst P (current_is o.current c (sym o.noted ∙ p)) o.holds
   where
     current_is : (x y : Current) → Some x ≡ Some y → x ≡ y
@@ -104,10 +104,11 @@ module _ (t v : State) (e : t ≡ v) (k : IsKept t) (c : Current) (p : t.current
     pub behind_kept_by : (kept : ℕ) (used : List FormId) → 0 < kept → LeadsUp v pair kept used → (y : code.Node) → node_ids y ≡ pruned kept c.path (Node.closed pair) (node_ids t.node)
         → (params : List FormId) → HasForms t.store params → forms_of t.store params ≡ enter (table t) (forms_of t.store (brought (behind kept c.path) (node_ids t.node)))
         → (d : Current) → IsLeaf t.store (behind kept c.path) (extend_all (root t) (lists_of t.store (along (behind kept c.path) (node_ids t.node)))) d
-        → IsKept (moved t y params t.run (Some d) (renoted kept used t.levels))
-    behind_kept_by zero used l g y same params has entered d leaf = absurd (omega arith)
-    behind_kept_by (suc m) used l g y same params has entered d leaf =
-        gone_kept t k c noted pair is_pair m used (leads_up (suc m) used g) y same params has entered d leaf
+        → (ls : List Level) → ls ≡ renoted kept used t.levels → IsKept (moved t y params t.run (Some d) ls)
+    behind_kept_by zero used l g y same params has entered d leaf ls levels = absurd (omega arith)
+    behind_kept_by (suc m) used l g y same params has entered d leaf ls levels =
+        subst (λ z. IsKept (moved t y params t.run (Some d) z)) (sym levels)
+        (gone_kept t k c noted pair is_pair m used (leads_up (suc m) used g) y same params has entered d leaf)
 
     -- the child behind stands below a branch that isn't closed
     pub leads_below : (kept : ℕ) (used : List FormId) → 0 < kept → LeadsUp v pair kept used → LeadsBelow t.store (normal_ids t) (behind kept c.path) (node_ids t.node)

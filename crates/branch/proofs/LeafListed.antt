@@ -63,6 +63,7 @@ after_call t v ps d = record {
   node = t.node;
   run = t.run;
   current = Some d;
+  levels = t.levels;
 }
 
 pub none_of : (o : Option Offered) → is_some o ≡ false → o ≡ None

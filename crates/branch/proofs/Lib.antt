@@ -68,6 +68,7 @@ pub mod SeenOffers
 pub mod OpenSteps
 pub mod Applying
 pub mod Ending
+pub mod Leading
 pub mod LeafListed
 pub mod SameState
 pub mod Refuted

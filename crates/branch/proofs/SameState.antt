@@ -1,10 +1,11 @@
 -- What holds of a tableau holds of one that stays as it was, over a store that has grown.
-use Rattle.std.proofs.Common.{ℕ, ◌≡◌, ◌<◌, false, ap, sym, subst, ◌∙◌, List, Option, None, length}
+use Rattle.std.proofs.Common.{ℕ, ◌≡◌, ◌<◌, true, ap, sym, subst, ◌∙◌, List, Option, None, length}
 use Rattle.zm_logic.specs.declared.problem.Symbol.{Symbol}
 use Rattle.term_store.specs.declared.ids.FormId.{FormId}
 use Rattle.term_store.specs.Trees.{Tables, Extends}
 use Rattle.term_store.proofs.Kept.{extends_more}
 use Rattle.branch.specs.declared.node.Node as code
+use Rattle.branch.specs.declared.levels.Level.{Level}
 use Rattle.branch.specs.declared.tableau.Current.{Current}
 use Rattle.branch.specs.declared.tableau.Rooted.{Rooted}
 use Rattle.branch.specs.Branch.{closing}
@@ -16,17 +17,18 @@ use Rattle.branch.specs.Tableau.{Leaf, Node, current_leaf, count}
 use Rattle.branch.proofs.States.{over, root_stays, node_stays}
 
 -- its parts that stay
-abbrev with_parts : State → List Symbol → ℕ → List FormId → List Rooted → code.Node → List ℕ → State
-with_parts u a b c d e f = record { symbols = a; rewrites = b; store = u.store; params = c; roots = d; node = e; run = f; current = u.current }
+abbrev with_parts : State → List Symbol → ℕ → List FormId → List Rooted → code.Node → List ℕ → List Level → State
+with_parts u a b c d e f g = record { symbols = a; rewrites = b; store = u.store; params = c; roots = d; node = e; run = f; current = u.current; levels = g }
 
 same_over : (t u : State) → IsSame t u → over t u.store u.current ≡ u
 same_over t u s =
-    ap (λ x. with_parts u x t.rewrites t.params t.roots t.node t.run) (sym s.of.symbols)
-    ∙ ap (λ x. with_parts u u.symbols x t.params t.roots t.node t.run) (sym s.of.rewrites)
-    ∙ ap (λ x. with_parts u u.symbols u.rewrites x t.roots t.node t.run) (sym s.params)
-    ∙ ap (λ x. with_parts u u.symbols u.rewrites u.params x t.node t.run) (sym s.of.roots)
-    ∙ ap (λ x. with_parts u u.symbols u.rewrites u.params u.roots x t.run) (sym s.node)
-    ∙ ap (λ x. with_parts u u.symbols u.rewrites u.params u.roots u.node x) (sym s.run)
+    ap (λ x. with_parts u x t.rewrites t.params t.roots t.node t.run t.levels) (sym s.of.symbols)
+    ∙ ap (λ x. with_parts u u.symbols x t.params t.roots t.node t.run t.levels) (sym s.of.rewrites)
+    ∙ ap (λ x. with_parts u u.symbols u.rewrites x t.roots t.node t.run t.levels) (sym s.params)
+    ∙ ap (λ x. with_parts u u.symbols u.rewrites u.params x t.node t.run t.levels) (sym s.of.roots)
+    ∙ ap (λ x. with_parts u u.symbols u.rewrites u.params u.roots x t.run t.levels) (sym s.node)
+    ∙ ap (λ x. with_parts u u.symbols u.rewrites u.params u.roots u.node x t.levels) (sym s.run)
+    ∙ ap (λ x. with_parts u u.symbols u.rewrites u.params u.roots u.node u.run x) (sym s.levels)
 
 module _ (t : State) (k : IsKept t) (v : Tables) (e : Extends t.store v) (d : Option Current) where
   root_same : root (over t v d) ≡ root t
@@ -54,8 +56,8 @@ module _ (t : State) (k : IsKept t) (v : Tables) (e : Extends t.store v) (d : Op
     offer = a.offer;
     taken = a.taken;
     grown = a.grown
-        ∙ ap (λ r. replaced false r (Node.step pick a.offer.kind a.offer.act (opening a.offer.children)) (tree (over t v d))) root_same
-        ∙ ap (replaced false (root t) (Node.step pick a.offer.kind a.offer.act (opening a.offer.children))) tree_same;
+        ∙ ap (λ r. replaced true r (Node.step pick a.offer.kind a.offer.act (opening a.offer.children)) (tree (over t v d))) root_same
+        ∙ ap (replaced true (root t) (Node.step pick a.offer.kind a.offer.act (opening a.offer.children))) tree_same;
   }
 
 module _ (t u : State) (k : IsKept t) (s : IsSame t u) where

@@ -1,4 +1,4 @@
-ghost use Rattle.std.specs.Prelude.{◌≡◌, ◌++◌, ◌∷◌, ◌<◌, ◌≤◌, Bool, length, take, drop, OnOk, IfOk, option_to_list};
+ghost use Rattle.std.specs.Prelude.{◌≡◌, get_or, ◌-◌, ◌++◌, ◌∷◌, ◌<◌, ◌≤◌, Bool, length, take, drop, OnOk, IfOk, option_to_list};
 ghost use Rattle.std.specs.Option.{option_map};
 ghost use Rattle.term_store.specs.Trees.{HasForm, form_of};
 ghost use Rattle.param_store.specs.View.{HasAct, HasForms, HasSecond, act_of, forms_of};
@@ -186,7 +186,8 @@ pub(crate) fn climbed(
 ) -> Result<Climb, AllocError>
     requires pair { HasClosing store.now pair }
     requires climbing { IsClimbing store.now branch.now path.now (node_ids node.now) levels.now }
-    ensures { IfOk result (λ c. IsClimb store.now (forms_of store.now (reached levels.now branch.now)) path.now (ids.closed pair) (node_ids node.now) levels.now c.kept c.used) }
+    ensures room { IfOk result (λ c. get_or path.now (c.kept - 1) 0 < 18446744073709551615) }
+    ensures climb { IfOk result (λ c. IsClimb store.now (forms_of store.now (reached levels.now branch.now)) path.now (ids.closed pair) (node_ids node.now) levels.now c.kept c.used) }
 {
     match path {
         [] => leaf(alloc, store, pair),

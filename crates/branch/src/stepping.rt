@@ -1,4 +1,4 @@
-ghost use Rattle.std.specs.Prelude.{◌≡◌, ◌≢◌, ◌<◌, ◌≤◌, ◌++◌, [], ◌∷◌, None, Some, All, map, length, take, slice_get, OnOk, OnErr, IfOk, IfErr};
+ghost use Rattle.std.specs.Prelude.{◌≡◌, ◌≢◌, ◌<◌, ◌≤◌, ◌-◌, ◌++◌, [], ◌∷◌, None, Some, get_or, map, length, take, slice_get, OnOk, OnErr, IfOk, IfErr};
 ghost use Rattle.std.specs.Borrow.{sem};
 ghost use Rattle.zm_logic.specs.View.{symbol_tree};
 ghost use Rattle.term_store.specs.Open.{HasRedex, redex_of};
@@ -17,7 +17,7 @@ ghost use Rattle.branch.specs.Listed.{IfStop};
 ghost use Rattle.branch.specs.Listing.{IsReady};
 ghost use Rattle.branch.specs.State.{tree};
 ghost use Rattle.branch.specs.Stepped.{IsOpen, IsUnclosed, AtLeaf, HasOffer, IsApplied, IsClosedAt, IsSame, AreOffersSeen, IsTooDeep};
-ghost use Rattle.branch.specs.Stepping.{AreOffersOf, ClosesCurrent, LeadsUp, EndsAll, HasListed, IsLeaf, IsListedAt, IsListing, closed_ids, open_leaf, open_leaves, step_ids};
+ghost use Rattle.branch.specs.Stepping.{AreOffersOf, ClosesCurrent, LeadsUp, EndsAll, OfCurrent, HasListed, IsLeaf, IsListedAt, IsListing, closed_ids, open_leaf, open_leaves, step_ids};
 
 use crate::along::{add_along, brought};
 use crate::climbing::climbed;
@@ -302,7 +302,7 @@ fn leaf_behind(
 ) -> Result<Current, AllocError>
     requires some { 0 < kept }
     requires within { kept ≤ length path.now }
-    requires room { All (λ i. i < 18446744073709551615) path.now }
+    requires room { get_or path.now (kept - 1) 0 < 18446744073709551615 }
     requires has_roots { HasForms store.now (map (λ r. r.normal) roots.now) }
     requires has_node { HasNode store.now (node_ids tree.now) }
     requires leads { LeadsBelow store.now (map (λ r. r.normal) roots.now) (behind kept path.now) (node_ids tree.now) }
@@ -341,7 +341,7 @@ fn put_in_place(tree: &mut Node, path: &[usize], kept: usize, new: Node)
 fn path_behind(alloc: Global, path: &[usize], kept: usize) -> Result<Items<usize>, AllocError>
     requires some { 0 < kept }
     requires within { kept ≤ length path.now }
-    requires room { All (λ i. i < 18446744073709551615) path.now }
+    requires room { get_or path.now (kept - 1) 0 < 18446744073709551615 }
     ensures { IfOk result (λ is. is ≡ behind kept path.now) }
 {
     let last = kept - 1;
@@ -456,6 +456,7 @@ impl Tableau<Open> {
         requires closes { ClosesCurrent self.old pair }
         requires some { 0 < kept }
         requires climbs { LeadsUp self.old pair kept used }
+        requires room { OfCurrent self.old (λ c. get_or c.path (kept - 1) 0 < 18446744073709551615) }
         ensures closed { OnOk result (IsClosedAt self.old self.new) }
         ensures refused { OnErr result (self.new ≡ self.old) }
     {

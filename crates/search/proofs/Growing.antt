@@ -95,7 +95,7 @@ module _ (t u : State) (k : IsKept t) (l : IsKept u) (same : IsSame t u) where
 
 -- a leaf is closed
 module _ (t u : State) (k : IsKept t) (l : IsKept u) (c : IsClosedAt t u) where
-  grown : IsGrown (setting t) (root t) (tree t) (Node.closed c.pair) (replaced false (root t) (Node.closed c.pair) (tree t))
+  grown : IsGrown (setting t) (root t) (tree t) (Node.closed c.pair) (replaced true (root t) (Node.closed c.pair) (tree t))
   grown =
       let h = leaf_short t c.leaf k c.is_current in
       leaves_may_be_replaced (setting t) (root t) (tree t) (Node.closed c.pair) c.leaf k.tree.tableau c.is_current refl c.closes (omega arith)
@@ -112,8 +112,8 @@ module _ (t u : State) (k : IsKept t) (l : IsKept u) (c : IsClosedAt t u) where
   pub closed_grown : StaysGrown t u
   closed_grown = grows t u k.begun l c.of (λ h. subst (All (λ k. k ≡ 0)) (sym closed_picks) h)
 
-  pub closed_leaves : suc (open_leaves (tree u)) ≡ open_leaves (tree t)
-  closed_leaves = ap (λ n. suc (open_leaves n)) c.grown ∙ closed_fewer (tree t) (root t) c.pair (is_open t c.leaf c.is_current)
+  pub closed_leaves : suc (open_leaves (tree u)) ≤ open_leaves (tree t)
+  closed_leaves = subst (λ n. suc (open_leaves n) ≤ open_leaves (tree t)) (sym c.grown) (closed_fewer (tree t) (root t) c.pair (is_open t c.leaf c.is_current))
 
 -- Open leaves have no Steps
 opening_count : (cs : List Child) → count_all (opening cs) ≡ 0
@@ -133,7 +133,7 @@ module _ (t u : State) (k : IsKept t) (l : IsKept u) (unclosed : IsUnclosed t) (
   abbrev step : Node
   step = Node.step 0 a.offer.kind a.offer.act (opening a.offer.children)
 
-  stepped : IsGrown (setting t) (root t) (tree t) step (replaced false (root t) step (tree t))
+  stepped : IsGrown (setting t) (root t) (tree t) step (replaced true (root t) step (tree t))
   stepped =
       let unclosed_leaf = at_leaf t (λ leaf. closing leaf.branch ≡ None) a.leaf unclosed a.is_current in
       let room = at_leaf t (λ leaf. leaf.above < 512) a.leaf short a.is_current in

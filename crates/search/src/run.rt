@@ -91,7 +91,7 @@ fn close(tableau: &mut Tableau<Open>) -> Result<(), AllocError>
     requires open { IsOpen tableau.old }
     requires closed { AtLeaf tableau.old (λ leaf. closing leaf.branch ≢ None) }
     ensures grown { OnOk result (StaysGrown tableau.old tableau.new) }
-    ensures fewer { OnOk result (suc (open_leaves (tree tableau.new)) ≡ open_leaves (tree tableau.old)) }
+    ensures fewer { OnOk result (suc (open_leaves (tree tableau.new)) ≤ open_leaves (tree tableau.old)) }
     ensures same { OnOk result (spec.count (tree tableau.new) ≡ spec.count (tree tableau.old)) }
 {
     tableau.kept();

@@ -33,7 +33,7 @@ use Rattle.zenon_modulo.proofs.HeadLines.{headed_reading}
 use Rattle.zenon_modulo.proofs.PlainProblems.{plain_refuted}
 
 abbrev setting_of : List Symbol → ℕ → Setting
-setting_of symbols rewrites = record { symbols = symbols; rules = []; rewrites = rewrites; prunes = false }
+setting_of symbols rewrites = record { symbols = symbols; rules = []; rewrites = rewrites; prunes = true }
 
 -- a tree that is stopped has an Open leaf
 stays_open : (s : Setting) (given : List Form) (budget : ℕ) (n : Node) (why : Cause) → Stopped s given budget n why → is_finished n ≡ false

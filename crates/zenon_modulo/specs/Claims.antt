@@ -33,7 +33,7 @@ Words = List (String Global)
 
 -- a search for a problem has no rules, takes at most 10,000 steps of rewriting for a normal form, and skips nothing
 abbrev pub setting : Problem → Setting
-setting p = record { symbols = p.symbols; rules = []; rewrites = 10000; prunes = false }
+setting p = record { symbols = p.symbols; rules = []; rewrites = 10000; prunes = true }
 
 -- its root's branch
 abbrev pub root : Problem → List Form

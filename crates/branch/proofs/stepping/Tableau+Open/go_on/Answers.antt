@@ -1,16 +1,14 @@
-use Rattle.std.proofs.Common.{◌≡◌, ◌≤◌, [], Some, length, map, ap, sym, subst, ◌∙◌, arith, rules}
+use Rattle.std.proofs.Common.{◌≡◌, ◌-◌, ◌<◌, ◌≤◌, [], Some, get_or, length, map, ap, sym, subst, ◌∙◌, arith, rules}
 use Rattle.param_store.specs.View.{HasForms, forms_of, lists_of}
 use Rattle.branch.specs.Branch.{extend}
 use Rattle.branch.specs.Ids.{Node, node_ids}
 use Rattle.branch.specs.Climbing.{behind, pruned}
 use Rattle.branch.specs.Path.{LeadsBelow, along, brought, extend_all}
-use Rattle.branch.specs.Stepping.{IsLeaf}
+use Rattle.branch.specs.Stepping.{IsLeaf, OfCurrent}
 use Rattle.branch.specs.Tableau.{enter}
-use Rattle.branch.proofs.Ending.{noted, end_closed, behind_kept_by, leads_below, leads_up}
+use Rattle.branch.proofs.Ending.{holds_of, noted, end_closed, behind_kept_by, leads_below, leads_up}
 use Rattle.branch.proofs.Finishing.{climbs_within}
 use Rattle.branch.proofs.Noticed.{as_many}
-use Rattle.branch.proofs.States.{moved}
-use Rattle.branch.specs.State.{IsKept}
 use Rattle.branch.proofs.Standing.{brought_has}
 use Rattle.branch.proofs.stepping.Tableau+Open.go_on.Goals as goal
 
@@ -23,7 +21,11 @@ leaf_behind-requires-clause-within c =
     subst (λ q. c.args.kept ≤ length q) (sym c.as_slice-path.ensures) w
 
 pub leaf_behind-requires-clause-room : goal.leaf_behind-requires-clause-room
-leaf_behind-requires-clause-room c = ?
+leaf_behind-requires-clause-room c =
+    let here = c.unwrap-current.result.now in
+    let p : c.self.inside.current ≡ Some here = search rules in
+    subst (λ q. get_or q (c.args.kept - 1) 0 < 18446744073709551615) (sym c.as_slice-path.ensures)
+    (holds_of _ here p (λ d. get_or d.path (c.args.kept - 1) 0 < 18446744073709551615) (subst (λ z. OfCurrent z (λ d. get_or d.path (c.args.kept - 1) 0 < 18446744073709551615)) (sym c.self.view_is) c.requires.room))
 
 pub leaf_behind-requires-clause-leads : goal.leaf_behind-requires-clause-leads
 leaf_behind-requires-clause-leads c =
@@ -58,14 +60,14 @@ invariant_of-self-2 c =
     c.put_in_place.ensures ∙ ap (λ q. pruned k q (node_ids c.closed_leaf-leaf.result) n) c.as_slice-path.ensures ∙ ap (λ (x : Node). pruned k here.path x n) c.closed_leaf-leaf.ensures in
     let forms : c.brought-forms.result.now ≡ brought (behind k here.path) n =
     c.brought-forms.ensures ∙ ap (λ q. brought q n) (c.as_slice-2.ensures ∙ c.in_ok-behind.ensures.path ∙ ap (behind k) c.as_slice-path.ensures) in
-    subst (λ ls. IsKept (moved _ c.put_in_place.new.tree c.number_all.new.params c.self.inside.picks (Some c.in_ok-behind.behind) ls)) (sym c.keep_levels.ensures)
-    (behind_kept_by _ c.args.self.now c.self.view_is c.self.invariant here p c.args.pair c.requires.closes k c.args.used c.requires.some c.requires.climbs c.put_in_place.new.tree same
+    behind_kept_by _ c.args.self.now c.self.view_is c.self.invariant here p c.args.pair c.requires.closes k c.args.used c.requires.some c.requires.climbs c.put_in_place.new.tree same
     c.number_all.new.params c.in_ok-number_all.ensures.has
     (c.in_ok-number_all.ensures.entered ∙ ap (λ fs. enter (forms_of s c.self.inside.params) (forms_of s fs)) forms)
     c.in_ok-behind.behind
     (subst (λ rs. IsLeaf s (behind k here.path) (extend_all (extend [] (forms_of s (map (λ r. r.normal) rs))) (lists_of s (along (behind k here.path) n))) c.in_ok-behind.behind) c.as_slice.ensures
     (subst (λ q. IsLeaf s (behind k q) (extend_all (extend [] (forms_of s (map (λ r. r.normal) c.as_slice.result.now))) (lists_of s (along (behind k q) n))) c.in_ok-behind.behind) c.as_slice-path.ensures
-    c.in_ok-behind.ensures)))
+    c.in_ok-behind.ensures))
+    c.keep_levels.new.levels.items c.keep_levels.ensures
 
 pub returns-clause-closed : goal.returns-clause-closed
 returns-clause-closed c =
