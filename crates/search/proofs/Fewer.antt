@@ -8,7 +8,7 @@ use Rattle.search.specs.OpenLeaves.{open_leaves, open_leaves_of}
 
 none_open : (ns : Children) → open_leaves_of (skipping ns) ≡ 0
 none_open Children.none = refl
-none_open (Children.more r f n ns) = none_open ns
+none_open (Children.more r f n ns) = let h = none_open ns in omega arith
 
 no_more_open : (w : Bool) (ns : Children) → open_leaves_of (cond w (skipping ns) ns) ≤ open_leaves_of ns
 no_more_open true ns = let h = none_open ns in omega arith
